@@ -1,0 +1,28 @@
+-- The first fault in a row of things: f i is the number that is wrong with thing i, 0 where nothing is wrong with it.
+use Prim.Native.Nat.{ℕ, zero, suc, _+_, _<_}
+use mathlib.Core.Path.{_≡_}
+use mathlib.Core.Logic.{_≢_, _⊎_, inl, inr, ⊎-elim, ite}
+use native.Mathlib.Decide.{ℕ-discrete}
+use Rattle.paper.specs.Told.{Told, refused}
+
+-- thing i of the first n has the fault k, and none before it has a fault
+pub record First (f : ℕ → ℕ) (n k i : ℕ) : Type 0 where
+  pub inside : i < n
+  pub here : f i ≡ k
+  pub fault : k ≢ 0
+  pub before : (j : ℕ) → j < i → f j ≡ 0
+
+-- none of the first n things has a fault
+abbrev pub Clear : (ℕ → ℕ) → ℕ → Type 0
+Clear f n = (j : ℕ) → j < n → f j ≡ 0
+
+-- the refusal of the first fault among the first n things, its place counted from 1; or else what follows
+unfoldable pub first : (ℕ → ℕ) → ℕ → Told → Told
+first f zero z = z
+first f (suc n) z = first f n (ite (ℕ-discrete (f n) 0) z (refused (f n) 0 (n + 1)))
+
+-- a choice of two tests is a test
+abbrev pub dec-or : {A B : Type 0} → Dec A → Dec B → Dec (A ⊎ B)
+dec-or (yes a) e = yes (inl a)
+dec-or (no d) (yes b) = yes (inr b)
+dec-or (no d) (no e) = no (⊎-elim d e)

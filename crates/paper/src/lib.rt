@@ -1,0 +1,44 @@
+// The paper's numbers, named once: the limits of tables, trees and texts, the refusals, and what a refusal tells.
+// No function stands here; specs/ has what an answer can tell and what "the first fault" means.
+
+// At most so many symbols, states and rules has a table.
+pub const SYMBOLS: u16 = 40;
+
+pub const STATES: usize = 60;
+
+pub const RULES: usize = 600;
+
+// So many numbers has a rule, and a slice for as many rules as a table can have.
+pub const WIDTH: usize = 4;
+
+pub const RULE_NUMBERS: usize = 2400;
+
+// At most so many nodes has a tree, two numbers each; the second number of a leaf is LEAF.
+pub const NODES: usize = 3660;
+
+pub const LEAF: u16 = 65535;
+
+// So many bytes has a slice for a rule text.
+pub const TEXT: usize = 8192;
+
+// The numbers of the refusals.
+pub const ROOM: u16 = 1;
+
+pub const SHAPE: u16 = 2;
+
+pub const ORDER: u16 = 3;
+
+pub const SIZE: u16 = 4;
+
+pub const RANGE: u16 = 5;
+
+pub const REPEAT: u16 = 6;
+
+pub const TREE: u16 = 12;
+
+// What a refusal tells: its number, whose it is (1 sender, 2 receiver, 0 neither), and its place (0 for the whole).
+pub struct Refusal {
+    pub number: u16,
+    pub side: u16,
+    pub place: usize,
+}
