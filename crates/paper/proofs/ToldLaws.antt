@@ -1,11 +1,27 @@
 -- A refusal is told apart from every other, and a test has one answer. Assumes nothing.
 use Prim.Native.Nat.{ℕ}
-use mathlib.Core.Path.{_≡_, refl, sym}
+use mathlib.Core.Path.{_≡_, refl, ap, _∙_}
+use native.Mathlib.Omega.{arith}
 use mathlib.Core.Bool.{Bool, true, false}
-use Rattle.paper.specs.Told.{Told, refused, Tells}
+use Rattle.paper.specs.Told.{Told, refused, passes, refusal, Tells}
+use Rattle.paper.specs.declared.Refusal.{Refusal}
 
 pub tells-unique : {P : Type 0} (a b : Bool) → Tells a P → Tells b P → a ≡ b
 tells-unique true true x y = refl
 tells-unique true false x y = absurd (y .no refl (x .yes refl))
 tells-unique false true x y = absurd (x .no refl (y .yes refl))
 tells-unique false false x y = refl
+
+pub refused-not-passes : {n s p : ℕ} → refused n s p ≡ passes → ⊥
+refused-not-passes e = let z : _≡_ {A = ℕ} 0 1 = cc in omega arith
+
+abbrev with : ℕ → ℕ → ℕ → Refusal
+with n m k = record { number = n; side = m; place = k }
+
+-- a refusal is known by its number, side and place
+pub refusal-unique : (r s : Refusal) → refusal r ≡ refusal s → r ≡ s
+refusal-unique r s e =
+    let a : r .number ≡ s .number = cc in
+    let b : r .side ≡ s .side = cc in
+    let c : r .place ≡ s .place = cc in
+    ap (λ (n : ℕ). with n (r .side) (r .place)) a ∙ ap (λ (n : ℕ). with (s .number) n (r .place)) b ∙ ap (λ (n : ℕ). with (s .number) (s .side) n) c

@@ -1,7 +1,7 @@
 -- The first fault in a row of things: f i is the number that is wrong with thing i, 0 where nothing is wrong with it.
 use Prim.Native.Nat.{ℕ, zero, suc, _+_, _<_}
 use mathlib.Core.Path.{_≡_}
-use mathlib.Core.Logic.{_≢_, _⊎_, inl, inr, ⊎-elim, ite}
+use mathlib.Core.Logic.{_≢_, ite}
 use native.Mathlib.Decide.{ℕ-discrete}
 use Rattle.paper.specs.Told.{Told, refused}
 
@@ -20,9 +20,3 @@ Clear f n = (j : ℕ) → j < n → f j ≡ 0
 unfoldable pub first : (ℕ → ℕ) → ℕ → Told → Told
 first f zero z = z
 first f (suc n) z = first f n (ite (ℕ-discrete (f n) 0) z (refused (f n) 0 (n + 1)))
-
--- a choice of two tests is a test
-abbrev pub dec-or : {A B : Type 0} → Dec A → Dec B → Dec (A ⊎ B)
-dec-or (yes a) e = yes (inl a)
-dec-or (no d) (yes b) = yes (inr b)
-dec-or (no d) (no e) = no (⊎-elim d e)

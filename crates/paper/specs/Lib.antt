@@ -1,3 +1,4 @@
 pub mod Told
 pub mod Limits
 pub mod First
+pub mod Tests
