@@ -1,7 +1,9 @@
 -- What the functions of the paper can answer, in the paper's own numbering. Every answer of the library is given its meaning here.
 use Prim.Native.Nat.{ℕ}
 use mathlib.Core.Path.{_≡_}
-use mathlib.Core.Bool.{Bool, true, false}
+use mathlib.Core.Bool.{Bool, true, false, cond}
+use mathlib.Core.List.{List, _++_}
+use lib.ListN.{length, drop}
 use Rattle.paper.specs.declared.Refusal.{Refusal}
 
 pub data Told : Type 0 where
@@ -20,6 +22,31 @@ pub data Told : Type 0 where
 -- what a refusal tells
 abbrev pub refusal : Refusal → Told
 refusal r = refused (r .number) (r .side) (r .place)
+
+-- is it a refusal, and where
+unfoldable pub isRefusal : Told → Bool
+isRefusal (refused n s p) = true
+isRefusal passes = false
+isRefusal accepted = false
+isRefusal rejected = false
+isRefusal (holds y n r) = false
+isRefusal (written n) = false
+
+unfoldable pub placeOf : Told → ℕ
+placeOf (refused n s p) = p
+placeOf passes = 0
+placeOf accepted = 0
+placeOf rejected = 0
+placeOf (holds y n r) = 0
+placeOf (written n) = 0
+
+-- the refusal of a check, or what follows a check that passes
+unfoldable pub after : Told → Told → Told
+after t z = cond (isRefusal t) t z
+
+-- what an output slice holds after an answer: it is filled from its front and the rest is unchanged; a refusal leaves it as it was
+unfoldable pub filled : Told → List ℕ → List ℕ → List ℕ
+filled t xs o = cond (isRefusal t) o (xs ++ drop (length xs) o)
 
 -- a test answers whether P holds
 pub record Tells (answer : Bool) (P : Type 0) : Type 0 where

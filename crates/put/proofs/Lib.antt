@@ -1,0 +1,4 @@
+-- The laws of writing; callers' proofs cite them too.
+pub mod Bytes
+pub mod PutLaws
+pub mod Unique

@@ -1,0 +1,3 @@
+pub mod Evaluate
+pub mod Exact
+pub mod Rows

@@ -1,0 +1,198 @@
+// A rule table given as slices, and its check: refusals 4, 2, 5 and 6.
+// specs/Rules has rules, evaluation and acceptance, specs/Check what is wrong with a table.
+ghost use mathlib.Core.Path.{_≡_};
+ghost use Prim.Native.Nat.{_+_, _*_, _/_, _<_, _≤_};
+ghost use lib.ListN.{length};
+ghost use Rattle.paper.specs.Limits.{limits, at};
+ghost use Rattle.paper.specs.Told.{Tells, passes};
+ghost use Rattle.paper.specs.First.{Clear, first};
+ghost use Rattle.table.specs.Rules.{Row};
+ghost use Rattle.table.specs.Check.{TooLarge, BadMark, Misshapen, OutOfRange, HasRow};
+ghost use Rattle.table.specs.Check.{markFault, ruleFault, tableChecked, told};
+use paper::Refusal;
+
+// The kinds of a rule.
+pub const LEAF_RULE: u16 = 0;
+
+pub const JOIN_RULE: u16 = 1;
+
+pub const EPSILON_RULE: u16 = 2;
+
+// The least and the greatest state mark, 2 × sort + final.
+const LEAST_MARK: u16 = 2;
+
+const MOST_MARK: u16 = 7;
+
+pub enum Checked {
+    Passes,
+    Refused(Refusal),
+}
+
+// A refusal at a place.
+fn refuse(number: u16, place: usize) -> Checked
+    ensures { λ r. ⌜ r ≡ Checked.Refused (record { number = number; side = 0; place = place }) ⌝ }
+{
+    Checked::Refused(Refusal {
+        number,
+        side: 0,
+        place,
+    })
+}
+
+// Are the symbols outside their limits, or the states or rules too many?
+fn too_large(symbols: u16, states: usize, rules: usize) -> bool
+    ensures { λ r. ⌜ Tells r (TooLarge limits symbols states rules) ⌝ }
+{
+    if symbols == 0 {
+        return true;
+    }
+    if paper::SYMBOLS < symbols {
+        return true;
+    }
+    if paper::STATES < states {
+        return true;
+    }
+    paper::RULES < rules
+}
+
+// The first state whose mark is out of range, or the number of states.
+fn first_bad_mark(marks: &[u16]) -> usize
+    ensures { λ r. ⌜ Clear (markFault (now (marks .entry))) r ⌝ }
+    ensures { λ r. ⌜ (r < length (now (marks .entry)) → BadMark (at (now (marks .entry)) r)) ⌝ }
+{
+    let mut i = 0;
+    while i < marks.len() {
+        if marks[i] < LEAST_MARK {
+            return i;
+        }
+        if MOST_MARK < marks[i] {
+            return i;
+        }
+        i += 1;
+    }
+    i
+}
+
+// Is the kind none of the three, or a number that must be 0 another one?
+fn misshapen(kind: u16, right: u16) -> bool
+    ensures { λ r. ⌜ Tells r (Misshapen kind right) ⌝ }
+{
+    if EPSILON_RULE < kind {
+        return true;
+    }
+    if kind != JOIN_RULE {
+        return right != 0;
+    }
+    false
+}
+
+// Does a rule name a symbol or a state that is not there?
+pub fn out_of_range(symbols: u16, states: usize, kind: u16, left: u16, right: u16, to: u16) -> bool
+    ensures { λ r. ⌜ Tells r (OutOfRange symbols states kind left right to) ⌝ }
+{
+    if states <= to as usize {
+        return true;
+    }
+    if kind == LEAF_RULE {
+        return symbols <= left;
+    }
+    if states <= left as usize {
+        return true;
+    }
+    if kind == JOIN_RULE {
+        return states <= right as usize;
+    }
+    false
+}
+
+// Has row i these numbers?
+fn is_row(rules: &[u16], i: usize, kind: u16, left: u16, right: u16, to: u16) -> bool
+    requires { ⌜ i * limits .width + limits .width ≤ length (now rules) ⌝ }
+    ensures { λ r. ⌜ Tells r (Row (limits .width) (now (rules .entry)) i kind left right to) ⌝ }
+{
+    let row = i * paper::WIDTH;
+    if rules[row] != kind {
+        return false;
+    }
+    if rules[row + 1] != left {
+        return false;
+    }
+    if rules[row + 2] != right {
+        return false;
+    }
+    rules[row + 3] == to
+}
+
+// Has one of the first n rows these numbers? A row that is not whole inside the slice doesn't count.
+pub fn has_row(rules: &[u16], n: usize, kind: u16, left: u16, right: u16, to: u16) -> bool
+    ensures { λ r. ⌜ Tells r (HasRow (limits .width) (now (rules .entry)) n kind left right to) ⌝ }
+{
+    let rows = rules.len() / paper::WIDTH;
+    let mut i = 0;
+    while i < n {
+        if rows <= i {
+            return false;
+        }
+        if is_row(rules, i, kind, left, right, to) {
+            return true;
+        }
+        i += 1;
+    }
+    false
+}
+
+// The lowest number that is wrong with rule i, or 0.
+fn rule_fault(symbols: u16, states: usize, rules: &[u16], i: usize) -> u16
+    requires { ⌜ i * limits .width + limits .width ≤ length (now rules) ⌝ }
+    ensures { λ r. ⌜ r ≡ ruleFault limits symbols states (now (rules .entry)) i ⌝ }
+{
+    let row = i * paper::WIDTH;
+    let kind = rules[row];
+    let left = rules[row + 1];
+    let right = rules[row + 2];
+    let to = rules[row + 3];
+    if misshapen(kind, right) {
+        return paper::SHAPE;
+    }
+    if out_of_range(symbols, states, kind, left, right, to) {
+        return paper::RANGE;
+    }
+    if has_row(rules, i, kind, left, right, to) {
+        return paper::REPEAT;
+    }
+    0
+}
+
+// Checks the rules in order, over so many symbols and states.
+fn check_rules(symbols: u16, states: usize, rules: &[u16]) -> Checked
+    ensures { λ r. ⌜ told r ≡ first (ruleFault limits symbols states (now (rules .entry)))
+        (length (now (rules .entry)) / limits .width) passes ⌝ }
+{
+    let rows = rules.len() / paper::WIDTH;
+    let mut i = 0;
+    while i < rows {
+        let fault = rule_fault(symbols, states, rules, i);
+        if fault != 0 {
+            return refuse(fault, i + 1);
+        }
+        i += 1;
+    }
+    Checked::Passes
+}
+
+// Checks a table: its size, its slice's length, its marks in order, its rules in order.
+pub fn check(symbols: u16, marks: &[u16], rules: &[u16]) -> Checked
+    ensures { λ r. ⌜ told r ≡ tableChecked limits symbols (now (marks .entry)) (now (rules .entry)) ⌝ }
+{
+    if too_large(symbols, marks.len(), rules.len() / paper::WIDTH) {
+        return refuse(paper::SIZE, 0);
+    }
+    if rules.len() % paper::WIDTH != 0 {
+        return refuse(paper::SHAPE, 0);
+    }
+    let state = first_bad_mark(marks);
+    if state < marks.len() {
+        return refuse(paper::RANGE, state + 1);
+    }
+    check_rules(symbols, marks.len(), rules)
+}
