@@ -4,7 +4,8 @@ ghost use mathlib.Core.Path.{_≡_};
 ghost use lib.Dec.{eqb};
 ghost use Rattle.bits.specs.Bits.{bitAt, Made};
 
-const WORD: usize = 16;
+// So many bits has a word.
+pub const WORD: usize = 16;
 
 // Is i in the set?
 pub fn get(words: &[u16], i: usize) -> bool
