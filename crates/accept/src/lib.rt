@@ -8,6 +8,7 @@ ghost use Rattle.paper.specs.Told.{Tells};
 ghost use Rattle.accept.specs.Work.{span, In, Room, Ready, Usable, StatesBelow, Added, FitsRow, GatherRow, GatherAll};
 ghost use Rattle.accept.specs.Work.{PassedRow, PassedAll, ClosedAll, Going, Evaluated, IsFinal, HasFinal, Judgeable};
 ghost use Rattle.accept.specs.Accept.{AcceptsNodes, Judged, told};
+use paper::Checked;
 use paper::Refusal;
 
 // So many words has the set of a node, one bit a state, and so many bits.
@@ -46,12 +47,12 @@ fn fits(rules: &[u16], k: usize, nodes: &[u16], i: usize, work: &[u16]) -> bool
     let a = nodes[2 * i];
     let b = nodes[2 * i + 1];
     if b == paper::LEAF {
-        if rules[r] != table::LEAF_RULE {
+        if rules[r] != paper::LEAF_RULE {
             return false;
         }
         return rules[r + 1] == a;
     }
-    if rules[r] != table::JOIN_RULE {
+    if rules[r] != paper::JOIN_RULE {
         return false;
     }
     if !has(work, a as usize, rules[r + 1]) {
@@ -90,7 +91,7 @@ fn step_row(rules: &[u16], k: usize, work: &mut [u16], i: usize) -> usize
     ensures { λ r. ⌜ PassedRow (now (rules .entry)) k (now (work .entry)) i (now (work .exit)) r ⌝ }
 {
     let r = k * paper::WIDTH;
-    if rules[r] != table::EPSILON_RULE {
+    if rules[r] != paper::EPSILON_RULE {
         return 0;
     }
     if !has(work, i, rules[r + 1]) {
@@ -193,10 +194,10 @@ fn accepts(marks: &[u16], rules: &[u16], nodes: &[u16]) -> bool
 pub fn accept(symbols: u16, marks: &[u16], rules: &[u16], nodes: &[u16]) -> Answer
     ensures { λ r. ⌜ Judged limits symbols (now (marks .entry)) (now (rules .entry)) (now (nodes .entry)) (told r) ⌝ }
 {
-    if let table::Checked::Refused(refusal) = table::check(symbols, marks, rules) {
+    if let Checked::Refused(refusal) = table::check(symbols, marks, rules) {
         return Answer::Refused(refusal);
     }
-    if let tree::Checked::Refused(refusal) = tree::check(symbols, nodes) {
+    if let Checked::Refused(refusal) = tree::check(symbols, nodes) {
         return Answer::Refused(refusal);
     }
     if accepts(marks, rules, nodes) {

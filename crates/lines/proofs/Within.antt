@@ -1,5 +1,5 @@
 -- Where reading stops: within the text, or just behind its end.
-use Prim.Native.Nat.{ℕ, _+_, _-_, _*_, _≤_}
+use Prim.Native.Nat.{ℕ, _+_, _-_, _*_, _≤_, _<_}
 use mathlib.Core.Path.{_≡_, ap, _∙_}
 use mathlib.Core.List.{List, [], _∷_}
 use native.Mathlib.Omega.{arith}
@@ -78,7 +78,11 @@ ends-near : (x : List ℕ) (i a b c : ℕ) → i ≤ length x → Near (length x
 unfolding ends
 ends-near x i a b c h =
     split (eqb (getD x i 0) lf)
-    (λ t. split (eqb (length x) (i + 1)) (λ u. rw (t, u) tt) (λ u. rw (t, u) h))
+    (λ t.
+    let z = eqb-true (getD x i 0) lf t in
+    let k : i < length x = within x i (omega arith) in
+    let m : i + 1 ≤ length x = omega arith in
+    split (eqb (length x) (i + 1)) (λ u. rw (t, u) tt) (λ u. rw (t, u) m))
     (λ t. rw t h)
 
 behind-near : (x : List ℕ) (i : ℕ) (f : ℕ → ℕ → Fields) → i ≤ length x → ((a j : ℕ) → j ≤ length x → Near (length x) (f a j)) → Near (length x) (behind (field x i) f)

@@ -20,9 +20,9 @@ abbrev pub behind : Number → (ℕ → ℕ → Fields) → Fields
 behind (Value a i) k = k a i
 behind (Bad i) k = Wrong i
 
--- LF at i, and nothing behind it
+-- LF at i, and nothing behind it: else the byte behind the LF is wrong, or that at i
 unfoldable pub ends : List ℕ → ℕ → Fields → Fields
-ends x i f = cond (eqb (getD x i 0) lf) (cond (eqb (length x) (i + 1)) f (Wrong i)) (Wrong i)
+ends x i f = cond (eqb (getD x i 0) lf) (cond (eqb (length x) (i + 1)) f (Wrong (i + 1))) (Wrong i)
 
 -- the n numbers, 2 or 3, behind the letter of the line x; the third is 0 where there are two
 unfoldable pub fields : ℕ → List ℕ → Fields

@@ -10,9 +10,9 @@ ghost use Rattle.lines.specs.Fields.{field, ends, fields};
 
 const MOST_NUMBER: u32 = 65535;
 
-const TAB: u8 = 9;
+pub const TAB: u8 = 9;
 
-const LF: u8 = 10;
+pub const LF: u8 = 10;
 
 // What stands where a number should: its value and where it ends, or the first byte that is wrong.
 pub enum Number {
@@ -90,15 +90,16 @@ fn read_end(x: &[u8], at: usize, f: Fields) -> Fields
     if x.len() <= at {
         return Fields::Wrong(at);
     }
-    if x[at] == LF {
-        if x.len() == at + 1 {
-            return f;
-        }
+    if x[at] != LF {
+        return Fields::Wrong(at);
     }
-    Fields::Wrong(at)
+    if x.len() == at + 1 {
+        return f;
+    }
+    Fields::Wrong(at + 1)
 }
 
-// The n numbers, 2 or 3, of the line x, whose first byte is not looked at.
+// The n numbers, 3 or else 2, of the line x, whose first byte is not looked at.
 pub fn read_fields(x: &[u8], n: usize) -> Fields
     ensures { λ r. ⌜ r ≡ fields n (now (x .entry)) ⌝ }
 {
@@ -120,7 +121,7 @@ pub fn read_fields(x: &[u8], n: usize) -> Fields
     }
 }
 
-// Where the line that starts at `at` ends: behind its LF, or where the text ends.
+// Where the line that starts at `at` ends: behind its LF, or where the text ends; `at` itself behind the end.
 pub fn line_end(s: &[u8], at: usize) -> usize
     ensures { λ r. ⌜ r ≡ lineEnd at (drop at (now (s .entry))) ⌝ }
 {

@@ -1,10 +1,12 @@
 -- A refusal is told apart from every other, and a test has one answer. Assumes nothing.
 use Prim.Native.Nat.{ℕ}
-use mathlib.Core.Path.{_≡_, refl, ap, _∙_}
+use mathlib.Core.Path.{_≡_, refl, sym, ap, _∙_}
 use native.Mathlib.Omega.{arith}
 use mathlib.Core.Bool.{Bool, true, false}
-use Rattle.paper.specs.Told.{Told, refused, passes, refusal, Tells}
+use Rattle.paper.specs.Told.{Told, refused, passes, refusal, checkTold, Tells}
 use Rattle.paper.specs.declared.Refusal.{Refusal}
+use Rattle.paper.specs.declared.Checked.{Checked}
+use Rattle.paper.specs.declared.Checked.the-variants.{Passes, Refused}
 
 pub tells-unique : {P : Type 0} (a b : Bool) → Tells a P → Tells b P → a ≡ b
 tells-unique true true x y = refl
@@ -25,3 +27,13 @@ refusal-unique r s e =
     let b : r .side ≡ s .side = cc in
     let c : r .place ≡ s .place = cc in
     ap (λ (n : ℕ). with n (r .side) (r .place)) a ∙ ap (λ (n : ℕ). with (s .number) n (r .place)) b ∙ ap (λ (n : ℕ). with (s .number) (s .side) n) c
+
+-- the answer of a check is known by what it tells, so that two answers which a check's contract allows are equal
+told-unique : (a b : Checked) → checkTold a ≡ checkTold b → a ≡ b
+told-unique Passes Passes e = refl
+told-unique Passes (Refused s) e = absurd (refused-not-passes (sym e))
+told-unique (Refused r) Passes e = absurd (refused-not-passes e)
+told-unique (Refused r) (Refused s) e = ap Refused (refusal-unique r s e)
+
+pub check-unique : (t : Told) (a b : Checked) → checkTold a ≡ t → checkTold b ≡ t → a ≡ b
+check-unique t a b x y = told-unique a b (x ∙ sym y)

@@ -16,7 +16,7 @@ pub record First (f : ℕ → ℕ) (n k i : ℕ) : Type 0 where
 abbrev pub Clear : (ℕ → ℕ) → ℕ → Type 0
 Clear f n = (j : ℕ) → j < n → f j ≡ 0
 
--- the refusal of the first fault among the first n things, its place counted from 1; or else what follows
+-- the refusal of the first fault among the first n things, of side 0, its place counted from 1; or else what follows
 unfoldable pub first : (ℕ → ℕ) → ℕ → Told → Told
 first f zero z = z
 first f (suc n) z = first f n (ite (ℕ-discrete (f n) 0) z (refused (f n) 0 (n + 1)))

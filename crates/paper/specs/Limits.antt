@@ -21,3 +21,13 @@ limits = record { symbols = 40; states = 60; rules = 600; width = 4; nodes = 366
 -- number i of a list of numbers, 0 behind its end
 abbrev pub at : List ℕ → ℕ → ℕ
 at xs i = getD xs i 0
+
+-- the kinds of a rule
+abbrev pub leafKind : ℕ
+leafKind = 0
+
+abbrev pub joinKind : ℕ
+joinKind = 1
+
+abbrev pub epsKind : ℕ
+epsKind = 2

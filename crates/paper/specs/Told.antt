@@ -1,10 +1,12 @@
--- What the functions of the paper can answer, in the paper's own numbering. Every answer of the library is given its meaning here.
+-- What can be answered, in the paper's own numbering. Every answer of the library is given its meaning here.
 use Prim.Native.Nat.{ℕ}
 use mathlib.Core.Path.{_≡_}
 use mathlib.Core.Bool.{Bool, true, false, cond}
 use mathlib.Core.List.{List, _++_}
 use lib.ListN.{length, drop}
 use Rattle.paper.specs.declared.Refusal.{Refusal}
+use Rattle.paper.specs.declared.Checked.{Checked}
+use Rattle.paper.specs.declared.Checked.the-variants.{Passes, Refused}
 
 pub data Told : Type 0 where
   -- a numbered refusal: side is 1 for the sender, 2 for the receiver, 0 for neither; place counts from 1, 0 is the whole
@@ -22,6 +24,11 @@ pub data Told : Type 0 where
 -- what a refusal tells
 abbrev pub refusal : Refusal → Told
 refusal r = refused (r .number) (r .side) (r .place)
+
+-- what the answer of a check tells
+abbrev pub checkTold : Checked → Told
+checkTold Passes = passes
+checkTold (Refused r) = refusal r
 
 -- is it a refusal, and where
 unfoldable pub isRefusal : Told → Bool

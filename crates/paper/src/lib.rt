@@ -11,7 +11,14 @@ pub const RULES: usize = 600;
 // So many numbers has a rule, and a slice for as many rules as a table can have.
 pub const WIDTH: usize = 4;
 
-pub const RULE_NUMBERS: usize = 2400;
+pub const RULE_NUMBERS: usize = RULES * WIDTH;
+
+// The kinds of a rule.
+pub const LEAF_RULE: u16 = 0;
+
+pub const JOIN_RULE: u16 = 1;
+
+pub const EPSILON_RULE: u16 = 2;
 
 // At most so many nodes has a tree, two numbers each; the second number of a leaf is LEAF.
 pub const NODES: usize = 3660;
@@ -41,4 +48,10 @@ pub struct Refusal {
     pub number: u16,
     pub side: u16,
     pub place: usize,
+}
+
+// What a check answers.
+pub enum Checked {
+    Passes,
+    Refused(Refusal),
 }

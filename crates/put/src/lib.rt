@@ -8,10 +8,8 @@ ghost use lib.Dec.{leb};
 ghost use Rattle.lines.specs.Number.{decimal};
 ghost use Rattle.lines.specs.Fields.{entry, last, letters};
 ghost use Rattle.put.specs.Put.{Fit, Wrote};
-
-const TAB: u8 = 9;
-
-const LF: u8 = 10;
+use lines::LF;
+use lines::TAB;
 
 // Whether `size` bytes from `at` on stand within a slice of `len`.
 fn has_room(len: usize, at: usize, size: usize) -> bool
@@ -105,7 +103,7 @@ fn size_of(n: usize, a: u16, b: u16, c: u16) -> usize
     two
 }
 
-// Writes the line of the letter t and n numbers, 2 or 3, and answers where it ends.
+// Writes the line of the letter t and n numbers, 3 or else 2, and answers where it ends.
 pub fn write_letters(out: &mut [u8], at: usize, t: u8, n: usize, a: u16, b: u16, c: u16) -> usize
     ensures { λ r. ⌜ Wrote (now (out .entry)) at (letters t n a b c) r (now (out .exit)) ⌝ }
 {

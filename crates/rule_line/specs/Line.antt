@@ -4,6 +4,7 @@ use mathlib.Core.List.{List, []}
 use mathlib.Core.Bool.{cond}
 use lib.Dec.{eqb}
 use lib.ListN.{getD}
+use Rattle.paper.specs.Limits.{leafKind, joinKind, epsKind}
 use Rattle.lines.specs.Fields.{fields, letters}
 use Rattle.lines.specs.declared.Fields.{Fields}
 use Rattle.lines.specs.declared.Fields.the-variants.{Got, Wrong}
@@ -37,7 +38,7 @@ count t =
 unfoldable pub says : ℕ → ℕ → ℕ → ℕ → Line
 says t a b c =
     cond (eqb t letterT) (Head a b)
-    (cond (eqb t letterS) (State a b c) (cond (eqb t letterL) (Rule 0 a 0 b) (cond (eqb t letterP) (Rule 1 a b c) (Rule 2 a 0 b))))
+    (cond (eqb t letterS) (State a b c) (cond (eqb t letterL) (Rule leafKind a 0 b) (cond (eqb t letterP) (Rule joinKind a b c) (Rule epsKind a 0 b))))
 
 abbrev pub said : ℕ → Fields → Line
 said t (Got a b c) = says t a b c
@@ -47,9 +48,9 @@ said t (Wrong i) = Faulty i
 unfoldable pub line : List ℕ → Line
 line x = cond (eqb (count (getD x 0 0)) 0) (Faulty 0) (said (getD x 0 0) (fields (count (getD x 0 0)) x))
 
--- how a rule is written, by its kind
+-- how a rule is written, by its kind, 0, 1 or else 2
 unfoldable pub ruleText : ℕ → ℕ → ℕ → ℕ → List ℕ
-ruleText k a b q = cond (eqb k 0) (letters letterL 2 a q 0) (cond (eqb k 1) (letters letterP 3 a b q) (letters letterE 2 a q 0))
+ruleText k a b q = cond (eqb k leafKind) (letters letterL 2 a q 0) (cond (eqb k joinKind) (letters letterP 3 a b q) (letters letterE 2 a q 0))
 
 -- how what a line says is written
 unfoldable pub lineText : Line → List ℕ

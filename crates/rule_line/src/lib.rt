@@ -1,4 +1,5 @@
-// One line of a rule text: taken apart, and written. The two are inverse to each other (proofs/LineLaws).
+// One line of a rule text: taken apart, and written. The two are inverse to each other on every line that can be said, with numbers that
+// must be 0 being so and one of the three kinds (Sayable, line-written and line-known of proofs/LineLaws).
 ghost use mathlib.Core.Path.{_≡_};
 ghost use Rattle.put.specs.Put.{Wrote};
 ghost use Rattle.rule_line.specs.Line.{count, says, line, ruleText, lineText};
@@ -43,9 +44,9 @@ fn line_of(t: u8, a: u16, b: u16, c: u16) -> Line
     match t {
         LETTER_T => Line::Head(a, b),
         LETTER_S => Line::State(a, b, c),
-        LETTER_L => Line::Rule(0, a, 0, b),
-        LETTER_P => Line::Rule(1, a, b, c),
-        _ => Line::Rule(2, a, 0, b),
+        LETTER_L => Line::Rule(paper::LEAF_RULE, a, 0, b),
+        LETTER_P => Line::Rule(paper::JOIN_RULE, a, b, c),
+        _ => Line::Rule(paper::EPSILON_RULE, a, 0, b),
     }
 }
 
@@ -71,10 +72,10 @@ pub fn read_line(x: &[u8]) -> Line
 fn write_rule(out: &mut [u8], at: usize, k: u16, a: u16, b: u16, q: u16) -> usize
     ensures { λ r. ⌜ Wrote (now (out .entry)) at (ruleText k a b q) r (now (out .exit)) ⌝ }
 {
-    if k == 0 {
+    if k == paper::LEAF_RULE {
         return put::write_letters(out, at, LETTER_L, 2, a, q, 0);
     }
-    if k == 1 {
+    if k == paper::JOIN_RULE {
         return put::write_letters(out, at, LETTER_P, 3, a, b, q);
     }
     put::write_letters(out, at, LETTER_E, 2, a, q, 0)

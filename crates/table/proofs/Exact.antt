@@ -8,13 +8,11 @@ use lib.ListN.{length}
 use Rattle.paper.specs.Limits.{Limits, at}
 use Rattle.paper.specs.Told.{refused, passes}
 use Rattle.paper.specs.First.{Clear, first}
-use Rattle.paper.proofs.ToldLaws.{refusal-unique, refused-not-passes}
+use Rattle.paper.proofs.ToldLaws.{refused-not-passes}
 use Rattle.paper.proofs.FirstLaws.{first-clear, first-fault, first-or-clear}
 use Rattle.table.specs.Check.{TooLarge, Ragged, BadMark, RuleMisshapen, RuleOutOfRange, RuleRepeated, GoodRule, ComesTo, Sound}
-use Rattle.table.specs.Check.{tooLarge?, ragged?, badMark?, misshapen?, outOfRange?, hasRow?, markFault, ruleFault, tableChecked, told}
+use Rattle.table.specs.Check.{tooLarge?, ragged?, badMark?, misshapen?, outOfRange?, hasRow?, markFault, ruleFault, tableChecked}
 use Rattle.table.specs.Check.{TableRefused, tooLarge, ragged, badMark, misshapen, outOfRange, repeated}
-use Rattle.table.specs.declared.Checked.{Checked}
-use Rattle.table.specs.declared.Checked.the-variants.{Passes, Refused}
 
 module _ (ms : List ℕ) (i : ℕ) where
   pub mark-good : ¬ BadMark (at ms i) → markFault ms i ≡ 0
@@ -135,7 +133,7 @@ module _ (L : Limits) (symbols : ℕ) (ms xs : List ℕ) where
   at-rule r (none g) d = absurd (d refl)
 
   -- every table is refused or sound
-  verdict : Verdict
+  pub verdict : Verdict
   verdict = by-cases (tooLarge? L symbols (length ms) (length xs / L .width))
       (λ h. isRefused (tooLarge h))
       (λ a. by-cases (ragged? L xs)
@@ -180,15 +178,3 @@ module _ (L : Limits) (symbols : ℕ) (ms xs : List ℕ) where
       back : Verdict → tableChecked L symbols ms xs ≡ passes → Sound L symbols ms xs
       back (isSound w) e = w
       back (isRefused r) e = absurd (refused-not-passes (sym (of-refused r) ∙ e))
-
--- the answer is the only one that tells what is told
-pub told-unique : (a b : Checked) → told a ≡ told b → a ≡ b
-told-unique Passes Passes e = refl
-told-unique Passes (Refused s) e = absurd (refused-not-passes (sym e))
-told-unique (Refused r) Passes e = absurd (refused-not-passes e)
-told-unique (Refused r) (Refused s) e = ap Refused (refusal-unique r s e)
-
--- two answers that the contract of `check` allows are equal
-pub check-unique : (L : Limits) (symbols : ℕ) (ms xs : List ℕ) (a b : Checked)
-    → told a ≡ tableChecked L symbols ms xs → told b ≡ tableChecked L symbols ms xs → a ≡ b
-check-unique L symbols ms xs a b x y = told-unique a b (x ∙ sym y)

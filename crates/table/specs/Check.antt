@@ -6,14 +6,12 @@ use mathlib.Core.Logic.{_≢_, _⊎_, ite, Dec·and, Dec·not}
 use mathlib.Core.List.{List}
 use native.Mathlib.Decide.{ℕ-discrete, decLe, decLt}
 use lib.ListN.{length}
-use Rattle.paper.specs.Limits.{Limits, at}
-use Rattle.paper.specs.Told.{Told, refused, passes, refusal}
+use Rattle.paper.specs.Limits.{Limits, at, leafKind, joinKind, epsKind}
+use Rattle.paper.specs.Told.{Told, refused, passes}
 use Rattle.paper.specs.First.{first}
 use Rattle.paper.specs.Tests.{dec-or, dec-below}
-use Rattle.table.specs.Rules.{Row}
+use Rattle.table.specs.Rules.{Row, sortOf, finalOf}
 use Rattle.table.specs.RowTest.{row?}
-use Rattle.table.specs.declared.Checked.{Checked}
-use Rattle.table.specs.declared.Checked.the-variants.{Passes, Refused}
 
 -- 4: symbols outside 1 to the most, too many states, too many rules (a slice: its length by the width, rounded down)
 abbrev pub TooLarge : Limits → ℕ → ℕ → ℕ → Type 0
@@ -23,18 +21,22 @@ TooLarge L symbols states rules = (symbols ≡ 0) ⊎ ((L .symbols < symbols) �
 abbrev pub Ragged : Limits → List ℕ → Type 0
 Ragged L xs = length xs % L .width ≢ 0
 
--- 5: a state mark is 2 × sort + final, sort 1 to 3 and final 0 or 1
+-- 5: a sort is 1, 2 or 3, and final 0 or 1
+abbrev pub BadSort : ℕ → ℕ → Type 0
+BadSort s f = (s ≡ 0) ⊎ ((3 < s) ⊎ (1 < f))
+
+-- 5: a state mark has a bad sort or final
 abbrev pub BadMark : ℕ → Type 0
-BadMark m = (m < 2) ⊎ (7 < m)
+BadMark m = BadSort (sortOf m) (finalOf m)
 
 -- 2: a kind above 2, or a number that must be 0 isn't
 abbrev pub Misshapen : ℕ → ℕ → Type 0
-Misshapen k b = (2 < k) ⊎ ((k ≢ 1) × (b ≢ 0))
+Misshapen k b = (epsKind < k) ⊎ ((k ≢ joinKind) × (b ≢ 0))
 
 -- 5: a rule names a state that is not below the states, or a symbol that is not below the symbols
 abbrev pub OutOfRange : ℕ → ℕ → ℕ → ℕ → ℕ → ℕ → Type 0
 OutOfRange symbols states k a b q =
-    (states ≤ q) ⊎ (((k ≡ 0) × (symbols ≤ a)) ⊎ (((k ≢ 0) × (states ≤ a)) ⊎ ((k ≡ 1) × (states ≤ b))))
+    (states ≤ q) ⊎ (((k ≡ leafKind) × (symbols ≤ a)) ⊎ (((k ≢ leafKind) × (states ≤ a)) ⊎ ((k ≡ joinKind) × (states ≤ b))))
 
 -- 6: one of the first n rows has these numbers
 abbrev pub HasRow : ℕ → List ℕ → ℕ → ℕ → ℕ → ℕ → ℕ → Type 0
@@ -46,8 +48,11 @@ tooLarge? L symbols states rules = dec-or (ℕ-discrete _ _) (dec-or (decLt _ _)
 unfoldable pub ragged? : (L : Limits) (xs : List ℕ) → Dec (Ragged L xs)
 ragged? L xs = Dec·not (ℕ-discrete _ _)
 
+unfoldable pub badSort? : (s f : ℕ) → Dec (BadSort s f)
+badSort? s f = dec-or (ℕ-discrete _ _) (dec-or (decLt _ _) (decLt _ _))
+
 unfoldable pub badMark? : (m : ℕ) → Dec (BadMark m)
-badMark? m = dec-or (decLt _ _) (decLt _ _)
+badMark? m = badSort? (sortOf m) (finalOf m)
 
 unfoldable pub misshapen? : (k b : ℕ) → Dec (Misshapen k b)
 misshapen? k b = dec-or (decLt _ _) (Dec·and (Dec·not (ℕ-discrete _ _)) (Dec·not (ℕ-discrete _ _)))
@@ -93,11 +98,6 @@ tableChecked L symbols ms xs =
     ite (tooLarge? L symbols (length ms) (length xs / L .width)) (refused 4 0 0)
     (ite (ragged? L xs) (refused 2 0 0)
     (first (markFault ms) (length ms) (first (ruleFault L symbols (length ms) xs) (length xs / L .width) passes)))
-
--- what the answer of the check tells
-abbrev pub told : Checked → Told
-told Passes = passes
-told (Refused r) = refusal r
 
 -- rule i has none of the three faults
 pub record GoodRule (L : Limits) (symbols states : ℕ) (xs : List ℕ) (i : ℕ) : Type 0 where

@@ -1,10 +1,10 @@
--- Rules, the states that a tree has under a set of rules, and acceptance (the paper's section 2). A set of rules is any predicate
--- on rules; a table's rules are those whose numbers stand in one of its rows. Sorts play no part in this.
-use Prim.Native.Nat.{ℕ, _+_, _*_, _%_, _≤_}
+-- Rules, the states that a tree has under a set of rules, and acceptance: the published evaluation of stepwise tree automata. A set of
+-- rules is any predicate on rules; a table's rules are those whose numbers stand in one of its rows. Sorts play no part in this.
+use Prim.Native.Nat.{ℕ, _+_, _*_, _/_, _%_, _≤_}
 use mathlib.Core.Path.{_≡_}
 use mathlib.Core.List.{List}
 use lib.ListN.{length}
-use Rattle.paper.specs.Limits.{at}
+use Rattle.paper.specs.Limits.{at, leafKind, joinKind, epsKind}
 use Rattle.tree.specs.Tree.{Tree, leaf, join}
 
 pub data Rule : Type 0 where
@@ -20,11 +20,11 @@ pub record Row (w : ℕ) (xs : List ℕ) (i k a b q : ℕ) : Type 0 where
   pub right : at xs (i * w + 2) ≡ b
   pub target : at xs (i * w + 3) ≡ q
 
--- row i is this rule: kind 0 is a leaf rule, 1 a join rule, 2 an ε rule
+-- row i is this rule
 abbrev pub RowRule : ℕ → List ℕ → ℕ → Rule → Type 0
-RowRule w xs i (leafRule a q) = Row w xs i 0 a 0 q
-RowRule w xs i (joinRule l r q) = Row w xs i 1 l r q
-RowRule w xs i (epsRule p q) = Row w xs i 2 p 0 q
+RowRule w xs i (leafRule a q) = Row w xs i leafKind a 0 q
+RowRule w xs i (joinRule l r q) = Row w xs i joinKind l r q
+RowRule w xs i (epsRule p q) = Row w xs i epsKind p 0 q
 
 -- the rules of a table
 abbrev pub RulesOf : ℕ → List ℕ → Rule → Type 0
@@ -43,8 +43,17 @@ pub data Has (R : Rule → Type 0) : Tree → ℕ → Type 0 where
   atEps : {t : Tree} {p q : ℕ} → Has R t p → R (epsRule p q) → Has R t q
 
 -- a state mark is 2 × sort + final
+abbrev pub markFor : ℕ → ℕ → ℕ
+markFor sort final = 2 * sort + final
+
+abbrev pub sortOf : ℕ → ℕ
+sortOf m = m / 2
+
+abbrev pub finalOf : ℕ → ℕ
+finalOf m = m % 2
+
 abbrev pub Final : List ℕ → ℕ → Type 0
-Final ms q = at ms q % 2 ≡ 1
+Final ms q = finalOf (at ms q) ≡ 1
 
 -- a tree is accepted if it has a final state
 pub record Accepts (R : Rule → Type 0) (ms : List ℕ) (t : Tree) : Type 0 where

@@ -4,29 +4,21 @@ ghost use mathlib.Core.Path.{_≡_};
 ghost use Prim.Native.Nat.{_+_, _*_, _/_, _<_, _≤_};
 ghost use lib.ListN.{length};
 ghost use Rattle.paper.specs.Limits.{limits, at};
-ghost use Rattle.paper.specs.Told.{Tells, passes};
+ghost use Rattle.paper.specs.Told.{Tells, passes, checkTold};
 ghost use Rattle.paper.specs.First.{Clear, first};
 ghost use Rattle.table.specs.Rules.{Row};
-ghost use Rattle.table.specs.Check.{TooLarge, BadMark, Misshapen, OutOfRange, HasRow};
-ghost use Rattle.table.specs.Check.{markFault, ruleFault, tableChecked, told};
+ghost use Rattle.table.specs.Check.{TooLarge, BadSort, BadMark, Misshapen, OutOfRange, HasRow};
+ghost use Rattle.table.specs.Check.{markFault, ruleFault, tableChecked};
+use paper::Checked;
+use paper::EPSILON_RULE;
+use paper::JOIN_RULE;
+use paper::LEAF_RULE;
 use paper::Refusal;
 
-// The kinds of a rule.
-pub const LEAF_RULE: u16 = 0;
+// The sorts of a state and the values of final go up to these.
+const MOST_SORT: u16 = 3;
 
-pub const JOIN_RULE: u16 = 1;
-
-pub const EPSILON_RULE: u16 = 2;
-
-// The least and the greatest state mark, 2 × sort + final.
-const LEAST_MARK: u16 = 2;
-
-const MOST_MARK: u16 = 7;
-
-pub enum Checked {
-    Passes,
-    Refused(Refusal),
-}
+const MOST_FINAL: u16 = 1;
 
 // A refusal at a place.
 fn refuse(number: u16, place: usize) -> Checked
@@ -40,7 +32,7 @@ fn refuse(number: u16, place: usize) -> Checked
 }
 
 // Are the symbols outside their limits, or the states or rules too many?
-fn too_large(symbols: u16, states: usize, rules: usize) -> bool
+pub fn too_large(symbols: u16, states: usize, rules: usize) -> bool
     ensures { λ r. ⌜ Tells r (TooLarge limits symbols states rules) ⌝ }
 {
     if symbols == 0 {
@@ -55,6 +47,19 @@ fn too_large(symbols: u16, states: usize, rules: usize) -> bool
     paper::RULES < rules
 }
 
+// Is a sort none of the three, or a final mark neither 0 nor 1?
+pub fn bad_sort(sort: u16, last: u16) -> bool
+    ensures { λ r. ⌜ Tells r (BadSort sort last) ⌝ }
+{
+    if sort == 0 {
+        return true;
+    }
+    if MOST_SORT < sort {
+        return true;
+    }
+    MOST_FINAL < last
+}
+
 // The first state whose mark is out of range, or the number of states.
 fn first_bad_mark(marks: &[u16]) -> usize
     ensures { λ r. ⌜ Clear (markFault (now (marks .entry))) r ⌝ }
@@ -62,10 +67,8 @@ fn first_bad_mark(marks: &[u16]) -> usize
 {
     let mut i = 0;
     while i < marks.len() {
-        if marks[i] < LEAST_MARK {
-            return i;
-        }
-        if MOST_MARK < marks[i] {
+        let m = marks[i];
+        if bad_sort(m / 2, m % 2) {
             return i;
         }
         i += 1;
@@ -165,7 +168,7 @@ fn rule_fault(symbols: u16, states: usize, rules: &[u16], i: usize) -> u16
 
 // Checks the rules in order, over so many symbols and states.
 fn check_rules(symbols: u16, states: usize, rules: &[u16]) -> Checked
-    ensures { λ r. ⌜ told r ≡ first (ruleFault limits symbols states (now (rules .entry)))
+    ensures { λ r. ⌜ checkTold r ≡ first (ruleFault limits symbols states (now (rules .entry)))
         (length (now (rules .entry)) / limits .width) passes ⌝ }
 {
     let rows = rules.len() / paper::WIDTH;
@@ -182,7 +185,7 @@ fn check_rules(symbols: u16, states: usize, rules: &[u16]) -> Checked
 
 // Checks a table: its size, its slice's length, its marks in order, its rules in order.
 pub fn check(symbols: u16, marks: &[u16], rules: &[u16]) -> Checked
-    ensures { λ r. ⌜ told r ≡ tableChecked limits symbols (now (marks .entry)) (now (rules .entry)) ⌝ }
+    ensures { λ r. ⌜ checkTold r ≡ tableChecked limits symbols (now (marks .entry)) (now (rules .entry)) ⌝ }
 {
     if too_large(symbols, marks.len(), rules.len() / paper::WIDTH) {
         return refuse(paper::SIZE, 0);

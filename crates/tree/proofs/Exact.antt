@@ -9,14 +9,12 @@ use borrow.Author.Tests.{leb-true, leb-false}
 use native.Mathlib.Omega.{arith}
 use lib.ListN.{length}
 use Rattle.paper.specs.Limits.{Limits, at}
-use Rattle.paper.specs.Told.{Told, refused, passes, refusal, Tells}
+use Rattle.paper.specs.Told.{refused, passes, Tells}
 use Rattle.paper.specs.First.{First, Clear, first}
-use Rattle.paper.proofs.ToldLaws.{refusal-unique, refused-not-passes}
+use Rattle.paper.proofs.ToldLaws.{refused-not-passes}
 use Rattle.paper.proofs.FirstLaws.{first-clear, first-fault, first-or-clear}
 use Rattle.tree.specs.Tree.{leafMark}
-use Rattle.tree.specs.Nodes.{BadLength, BadNode, badLength?, badNode?, nodeFault, treeChecked, TreeRefused, badLength, badNode, Sound, told}
-use Rattle.tree.specs.declared.Checked.{Checked}
-use Rattle.tree.specs.declared.Checked.the-variants.{Passes, Refused}
+use Rattle.tree.specs.Nodes.{BadLength, BadNode, badLength?, badNode?, nodeFault, treeChecked, TreeRefused, badLength, badNode, Sound}
 
 module _ (symbols : ℕ) (xs : List ℕ) (i : ℕ) where
   pub node-good : ¬ BadNode symbols xs i → nodeFault symbols xs i ≡ 0
@@ -113,15 +111,3 @@ module _ (symbols : ℕ) (xs : List ℕ) (i : ℕ) where
     yes = λ t. inr (d, inr (leb-true _ _ t));
     no = λ t. let k = leb-false i (at xs (2 * i + 1)) t in ⊎-elim (λ x. d (x .0)) (λ x. ⊎-elim (λ y. omega arith) (λ y. omega arith) (x .1));
   }
-
--- the answer is the only one that tells what is told
-pub told-unique : (a b : Checked) → told a ≡ told b → a ≡ b
-told-unique Passes Passes e = refl
-told-unique Passes (Refused s) e = absurd (refused-not-passes (sym e))
-told-unique (Refused r) Passes e = absurd (refused-not-passes e)
-told-unique (Refused r) (Refused s) e = ap Refused (refusal-unique r s e)
-
--- two answers that the contract of `check` allows are equal
-pub check-unique : (L : Limits) (symbols : ℕ) (xs : List ℕ) (a b : Checked)
-    → told a ≡ treeChecked L symbols xs → told b ≡ treeChecked L symbols xs → a ≡ b
-check-unique L symbols xs a b x y = told-unique a b (x ∙ sym y)

@@ -6,12 +6,10 @@ use mathlib.Core.List.{List}
 use native.Mathlib.Decide.{ℕ-discrete, decLe, decLt}
 use lib.ListN.{length}
 use Rattle.paper.specs.Limits.{Limits, at}
-use Rattle.paper.specs.Told.{Told, refused, passes, refusal}
+use Rattle.paper.specs.Told.{Told, refused, passes}
 use Rattle.paper.specs.First.{first}
 use Rattle.paper.specs.Tests.{dec-or}
 use Rattle.tree.specs.Tree.{leafMark}
-use Rattle.tree.specs.declared.Checked.{Checked}
-use Rattle.tree.specs.declared.Checked.the-variants.{Passes, Refused}
 
 -- the length is odd, 0 or over two numbers for each of the most nodes
 abbrev pub BadLength : Limits → List ℕ → Type 0
@@ -37,11 +35,6 @@ nodeFault symbols xs i = ite (badNode? symbols xs i) 12 0
 -- what the check of a tree tells: its length, then its first faulty node, counted from 1
 unfoldable pub treeChecked : Limits → ℕ → List ℕ → Told
 treeChecked L symbols xs = ite (badLength? L xs) (refused 12 0 0) (first (nodeFault symbols xs) (length xs / 2) passes)
-
--- what the answer of the check tells
-abbrev pub told : Checked → Told
-told Passes = passes
-told (Refused r) = refusal r
 
 -- refusal 12, as "given exactly if": number, side and place (`refused-exactly` of proofs/Exact says that the check tells exactly these)
 pub data TreeRefused (L : Limits) (symbols : ℕ) (xs : List ℕ) : ℕ → ℕ → ℕ → Type 0 where

@@ -4,14 +4,10 @@ ghost use mathlib.Core.Path.{_≡_};
 ghost use Prim.Native.Nat.{_+_, _*_, _≤_};
 ghost use lib.ListN.{length};
 ghost use Rattle.paper.specs.Limits.{limits};
-ghost use Rattle.paper.specs.Told.{Tells};
-ghost use Rattle.tree.specs.Nodes.{BadNode, treeChecked, told};
+ghost use Rattle.paper.specs.Told.{Tells, checkTold};
+ghost use Rattle.tree.specs.Nodes.{BadNode, treeChecked};
+use paper::Checked;
 use paper::Refusal;
-
-pub enum Checked {
-    Passes,
-    Refused(Refusal),
-}
 
 // Refusal 12 at a place.
 fn refuse(place: usize) -> Checked
@@ -42,7 +38,7 @@ fn is_bad(symbols: u16, nodes: &[u16], i: usize) -> bool
 
 // Checks a tree over so many symbols: its length, then node by node.
 pub fn check(symbols: u16, nodes: &[u16]) -> Checked
-    ensures { λ r. ⌜ told r ≡ treeChecked limits symbols (now (nodes .entry)) ⌝ }
+    ensures { λ r. ⌜ checkTold r ≡ treeChecked limits symbols (now (nodes .entry)) ⌝ }
 {
     if nodes.len() % 2 == 1 {
         return refuse(0);

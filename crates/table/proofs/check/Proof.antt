@@ -4,7 +4,7 @@ use denote.Ref.{now}
 use native.Mathlib.Omega.{arith}
 use borrow.Author.Needs.{needs}
 use Rattle.paper.specs.Limits.{limits}
-use Rattle.table.specs.Check.{told}
+use Rattle.paper.specs.Told.{checkTold}
 use Rattle.table.proofs.Exact.{refuse-size, refuse-length, refuse-mark, to-rules}
 use Rattle.table.proofs.check.Statement.{statement}
 use Rattle.table.proofs.check.Tie as tie
@@ -17,7 +17,7 @@ refuse-requires c κs = search needs
 
 returns : tie.Need-returns
 returns c =
-    ap told (c .refuse .ensures)
+    ap checkTold (c .refuse .ensures)
     ∙ sym (refuse-size limits (c .before .before .before .before .before .args .symbols) (now (c .before .before .before .before .before .args .marks)) (now (c .before .before .before .before .before .args .rules)) (c .before .before .too-large .ensures .yes (c .before .if1 .taken)))
 
 refuse-requires-2 : tie.Need-refuse-requires-2
@@ -25,7 +25,7 @@ refuse-requires-2 c κs = search needs
 
 returns-2 : tie.Need-returns-2
 returns-2 c =
-    ap told (c .refuse2 .ensures)
+    ap checkTold (c .refuse2 .ensures)
     ∙ sym (refuse-length limits (c .before .before .before .before .before .before .args .symbols) (now (c .before .before .before .before .before .before .args .marks)) (now (c .before .before .before .before .before .before .args .rules)) (c .before .before .before .too-large .ensures .no (c .before .before .if1 .left)) (c .before .if2 .taken))
 
 first-bad-mark-requires : tie.Need-first-bad-mark-requires
@@ -39,7 +39,7 @@ refuse-requires-3 c κs = search needs
 
 returns-3 : tie.Need-returns-3
 returns-3 c =
-    ap told (c .refuse3 .ensures)
+    ap checkTold (c .refuse3 .ensures)
     ∙ sym (refuse-mark limits (c .before .before .before .before .before .before .before .before .args .symbols) (now (c .before .before .before .before .before .before .before .before .args .marks)) (now (c .before .before .before .before .before .before .before .before .args .rules)) (c .before .before .before .before .before .too-large .ensures .no (c .before .before .before .before .if1 .left)) (λ d. d (c .before .before .before .if2 .left))
     (c .before .before .first-bad-mark .result) (c .before .if3 .taken) (c .before .before .first-bad-mark .ensures .1 (c .before .if3 .taken)) (c .before .before .first-bad-mark .ensures .0))
 

@@ -6,9 +6,9 @@ use native.Mathlib.Omega.{arith}
 use borrow.Author.Count.{below-more}
 use Rattle.paper.specs.First.{Clear}
 use Rattle.paper.specs.Limits.{limits}
-use Rattle.paper.specs.Told.{passes}
+use Rattle.paper.specs.Told.{passes, checkTold}
 use Rattle.paper.proofs.FirstLaws.{first-clear, first-fault}
-use Rattle.table.specs.Check.{ruleFault, told}
+use Rattle.table.specs.Check.{ruleFault}
 use Rattle.table.proofs.Rows.{row-whole}
 use Rattle.table.proofs.check_rules.Statement.{statement}
 use Rattle.table.proofs.check_rules.Tie as tie
@@ -33,7 +33,7 @@ refuse-requires c κs = tt
 
 returns : tie.Need-returns Inv-loop μ-loop
 returns c =
-    ap told (c .refuse .ensures)
+    ap checkTold (c .refuse .ensures)
     ∙ sym (first-fault (ruleFault limits (c .before .before .before .before .before .before .args .symbols) (c .before .before .before .before .before .before .args .states) (now (c .before .before .before .before .before .before .args .rules))) _ (c .before .before .rule-fault .result) (c .before .before .before .before .loop .i) passes
     (record { inside = c .before .before .before .loop-test .taken; here = sym (c .before .before .rule-fault .ensures); fault = c .before .if1 .taken; before = c .before .before .before .before .loop .inv .1 }))
 

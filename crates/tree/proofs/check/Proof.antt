@@ -7,7 +7,8 @@ use borrow.Author.Count.{below-more}
 use borrow.Author.Needs.{needs}
 use Rattle.paper.specs.First.{Clear}
 use Rattle.paper.specs.Limits.{limits}
-use Rattle.tree.specs.Nodes.{nodeFault, told}
+use Rattle.paper.specs.Told.{checkTold}
+use Rattle.tree.specs.Nodes.{nodeFault}
 use Rattle.tree.proofs.Exact.{refuse-length, refuse-node, pass-all, length-good, node-good}
 use Rattle.tree.proofs.check.Statement.{statement}
 use Rattle.tree.proofs.check.Tie as tie
@@ -22,13 +23,13 @@ refuse-requires : tie.Need-refuse-requires Inv-loop μ-loop
 refuse-requires c κs = tt
 
 returns : tie.Need-returns Inv-loop μ-loop
-returns c = ap told (c .refuse .ensures) ∙ sym (refuse-length limits (c .before .before .before .args .symbols) (now (c .before .before .before .args .nodes)) (inl (c .before .if1 .taken)))
+returns c = ap checkTold (c .refuse .ensures) ∙ sym (refuse-length limits (c .before .before .before .args .symbols) (now (c .before .before .before .args .nodes)) (inl (c .before .if1 .taken)))
 
 refuse-requires-2 : tie.Need-refuse-requires-2 Inv-loop μ-loop
 refuse-requires-2 c κs = tt
 
 returns-2 : tie.Need-returns-2 Inv-loop μ-loop
-returns-2 c = ap told (c .refuse2 .ensures) ∙ sym (refuse-length limits (c .before .before .before .before .args .symbols) (now (c .before .before .before .before .args .nodes)) (inr (inl (c .before .if2 .taken))))
+returns-2 c = ap checkTold (c .refuse2 .ensures) ∙ sym (refuse-length limits (c .before .before .before .before .args .symbols) (now (c .before .before .before .before .args .nodes)) (inr (inl (c .before .if2 .taken))))
 
 mul-if3 : tie.Need-mul-if3 Inv-loop μ-loop
 mul-if3 c = search needs
@@ -37,7 +38,7 @@ refuse-requires-3 : tie.Need-refuse-requires-3 Inv-loop μ-loop
 refuse-requires-3 c κs = tt
 
 returns-3 : tie.Need-returns-3 Inv-loop μ-loop
-returns-3 c = ap told (c .refuse3 .ensures) ∙ sym (refuse-length limits (c .before .before .before .before .before .args .symbols) (now (c .before .before .before .before .before .args .nodes)) (inr (inr (c .before .if3 .taken))))
+returns-3 c = ap checkTold (c .refuse3 .ensures) ∙ sym (refuse-length limits (c .before .before .before .before .before .args .symbols) (now (c .before .before .before .before .before .args .nodes)) (inr (inr (c .before .if3 .taken))))
 
 loop-holds : tie.Need-loop-holds Inv-loop μ-loop
 loop-holds c = (omega arith, λ j h. absurd (omega arith))
@@ -53,7 +54,7 @@ refuse-requires-4 c κs = tt
 
 returns-4 : tie.Need-returns-4 Inv-loop μ-loop
 returns-4 c =
-    ap told (c .refuse4 .ensures)
+    ap checkTold (c .refuse4 .ensures)
     ∙ sym (refuse-node limits (c .before .before .before .before .before .before .before .before .before .args .symbols) (now (c .before .before .before .before .before .before .before .before .before .args .nodes)) (c .before .before .before .before .loop .i) (length-good limits (now (c .before .before .before .before .before .before .before .before .before .args .nodes)) (c .before .before .before .before .before .before .before .if1 .left) (c .before .before .before .before .before .before .if2 .left) (c .before .before .before .before .before .if3 .left)) (omega arith) (c .before .before .is-bad .ensures .yes (c .before .if4 .taken)) (c .before .before .before .before .loop .inv .1))
 
 add-i : tie.Need-add-i Inv-loop μ-loop
