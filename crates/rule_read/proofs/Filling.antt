@@ -1,15 +1,15 @@
--- From the work slices to the lent ones, and from an answer to its place. Assumes nothing.
+-- From the work slices to the lent ones. Assumes nothing.
 use Prim.Native.Nat.{ℕ, _+_, _*_, _≤_, _<_}
 use mathlib.Core.Path.{_≡_, refl, ap, sym, _∙_}
-use mathlib.Core.Logic.{inl, inr, ⊎-elim}
+use mathlib.Core.Logic.{⊎-elim}
 use mathlib.Core.List.{List, _++_}
 use native.Mathlib.Omega.{arith}
 use lib.ListN.{length, take, drop}
 use lib.Seq.{length-take-le}
 use Rattle.paper.specs.Limits.{Limits}
-use Rattle.paper.specs.Told.{Told, refused, holds, refusal, isRefusal, placeOf, filled}
+use Rattle.paper.specs.Told.{Told, refused, holds, refusal, isRefusal, filled}
 use Rattle.paper.specs.declared.Refusal.{Refusal}
-use Rattle.rule_read.specs.Text.{saidBy, marksOf, rulesOf, textTold, NoRoom, readTold, told, Reads}
+use Rattle.rule_read.specs.Text.{saidBy, marksOf, rulesOf, NoRoom, readTold, told, Reads}
 use Rattle.rule_read.specs.Work.{Fronts, Answers}
 use Rattle.rule_read.specs.declared.Reading.{Reading}
 use Rattle.rule_read.specs.declared.Reading.the-variants.{Read, Refused}
@@ -64,13 +64,3 @@ module _ (L : Limits) (s M W : List ℕ) where
 -- there is room, from the tests that failed
 pub roomy : (L : Limits) (M W : List ℕ) → L .states ≤ length M → L .rules * L .width ≤ length W → ¬ NoRoom L M W
 roomy L M W a b = ⊎-elim (λ x. omega arith) (λ x. omega arith)
-
--- the place of an answer
-module _ {L : Limits} {s : List ℕ} {a : Reading} {M W : List ℕ} (g : Answers L s a M W) where
-  pub place-refused : {x : Refusal} → a ≡ Refused x → x .place ≡ placeOf (textTold L s)
-  unfolding placeOf
-  place-refused {x} e = ap placeOf (ap told (sym e) ∙ g .answer)
-
-  pub place-none : {y n r : ℕ} → a ≡ Read y n r → 0 ≡ placeOf (textTold L s)
-  unfolding placeOf
-  place-none {y} {n} {r} e = ap placeOf (ap told (sym e) ∙ g .answer)

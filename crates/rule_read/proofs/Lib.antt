@@ -3,7 +3,6 @@ pub mod Verdict
 pub mod Said
 pub mod Counting
 pub mod Exact
-pub mod PartLaws
 pub mod Storing
 pub mod Rows
 pub mod Going

@@ -1,14 +1,13 @@
-// Rule texts read into a table; and the faulty line of two texts.
-// specs/Text has what a text tells, specs/Part the faulty line, specs/Work what the reader keeps while it reads.
+// Rule texts read into a table. The reader takes every text: it tells the table, which then stands at the fronts of the lent slices, or
+// the refusal with its line, which leaves the slices as they were.
+// specs/Text has what a text tells, specs/Work what the reader keeps while it reads.
 ghost use mathlib.Core.Path.{_≡_};
 ghost use mathlib.Core.List.{[], _∷_, _++_};
 ghost use Prim.Native.Nat.{_+_, _*_, _≤_};
 ghost use lib.ListN.{length, take, drop};
 ghost use lib.Seq.{sets};
 ghost use Rattle.paper.specs.Limits.{limits};
-ghost use Rattle.paper.specs.Told.{placeOf};
-ghost use Rattle.rule_read.specs.Text.{stateLineFault, ruleLineFault, lineFault, textTold, Reads};
-ghost use Rattle.rule_read.specs.Part.{faultyPart};
+ghost use Rattle.rule_read.specs.Text.{stateLineFault, ruleLineFault, lineFault, Reads};
 ghost use Rattle.rule_read.specs.Work.{Room, Fits, Stored, Headed, Answers};
 use paper::Refusal;
 use rule_line::Line;
@@ -20,13 +19,13 @@ pub enum Reading {
 }
 
 // What the head of a text says.
-pub struct Sizes {
+struct Sizes {
     pub symbols: u16,
     pub states: u16,
 }
 
 // How many marks and rules are read.
-pub struct Counts {
+struct Counts {
     pub marks: usize,
     pub rules: usize,
 }
@@ -228,32 +227,4 @@ pub fn read_text(text: &[u8], marks: &mut [u16], rules: &mut [u16]) -> Reading
             Reading::Read(y, n, r)
         }
     }
-}
-
-// The line at which a text is refused, counted from 1, or 0.
-fn refused_at(text: &[u8]) -> usize
-    ensures { λ r. ⌜ r ≡ placeOf (textTold limits (now (text .entry))) ⌝ }
-{
-    let mut ms = [0u16; paper::STATES];
-    let mut xs = [0u16; paper::RULE_NUMBERS];
-    let found = read_work(text, &mut ms, &mut xs);
-    match found {
-        Reading::Refused(x) => x.place,
-        Reading::Read(_, _, _) => 0,
-    }
-}
-
-// The faulty line of two texts, the sender's if both have a fault, as a part of its text; an empty part where there is none.
-pub fn faulty_line<'a>(sender: &'a [u8], receiver: &'a [u8]) -> &'a [u8]
-    ensures { λ r. ⌜ now r ≡ faultyPart limits (now (sender .entry)) (now (receiver .entry)) ⌝ }
-{
-    let s = refused_at(sender);
-    if 0 < s {
-        return lines::line(sender, s - 1);
-    }
-    let r = refused_at(receiver);
-    if 0 < r {
-        return lines::line(receiver, r - 1);
-    }
-    &receiver[0..0]
 }

@@ -1,0 +1,36 @@
+use mathlib.Core.Path.{_≡_}
+use Prim.Native.Nat.{_-_}
+use lib.ListN.{length}
+use native.Mathlib.Omega.{arith}
+use borrow.Author.Needs.{needs}
+use Rattle.base_cases.proofs.numbers.parse.Statement.{statement}
+use Rattle.base_cases.proofs.numbers.parse.Tie as tie
+
+abbrev Inv-loop : tie.InvT-loop
+Inv-loop bytes out₀ at₀ count₀ out at count = length out ≡ length out₀
+
+abbrev μ-loop : tie.MeasureT-loop
+μ-loop bytes out₀ at₀ count₀ out at count = length bytes - at
+
+loop-holds : tie.Need-loop-holds Inv-loop μ-loop
+loop-holds c = search needs
+
+step-requires : tie.Need-step-requires Inv-loop μ-loop
+step-requires c κs = search needs
+
+loop-less : tie.Need-loop-less Inv-loop μ-loop
+loop-less c = search needs
+
+loop-again : tie.Need-loop-again Inv-loop μ-loop
+loop-again c = search needs
+
+same-length : tie.Need-same-length Inv-loop μ-loop
+same-length c = search needs
+
+returns : tie.Need-returns Inv-loop μ-loop
+returns c = search needs
+
+pub parse-spec : {M : Type 1} → statement M
+parse-spec =
+    tie.close
+    (tie.spec Inv-loop μ-loop loop-holds step-requires loop-less loop-again same-length returns)

@@ -1,0 +1,97 @@
+// Numbers of a case: decimal, parted by any other bytes; `n*v` stands for n times v.
+ghost use mathlib.Core.Path.{_≡_};
+ghost use Prim.Native.Nat.{_≤_, _<_};
+ghost use lib.ListN.{length};
+use lines::Number;
+
+// How far the bytes are read, and how many numbers there are.
+struct Reached {
+    at: usize,
+    count: usize,
+}
+
+// Puts v behind the first `count` numbers of the slice, if it goes so far, and answers how many there are then.
+fn push(out: &mut [u16], count: usize, v: u16) -> usize
+    ensures { λ r. ⌜ length (now (out .exit)) ≡ length (now (out .entry)) ⌝ }
+{
+    if count < out.len() {
+        out[count] = v;
+        return count + 1;
+    }
+    count
+}
+
+// Puts v `times` times, and answers how many numbers there are then.
+fn repeat(out: &mut [u16], count: usize, times: u16, v: u16) -> usize
+    ensures { λ r. ⌜ length (now (out .exit)) ≡ length (now (out .entry)) ⌝ }
+{
+    let mut n = count;
+    let mut left = times;
+    while 0 < left {
+        n = push(out, n, v);
+        left -= 1;
+    }
+    n
+}
+
+// Puts the number a, or a times the number behind a star, and answers how many numbers there are then.
+fn item(bytes: &[u8], end: usize, a: u16, out: &mut [u16], count: usize) -> usize
+    ensures { λ r. ⌜ length (now (out .exit)) ≡ length (now (out .entry)) ⌝ }
+{
+    if end < bytes.len() {
+        if bytes[end] == b'*' {
+            let second = lines::read_number(bytes, end + 1);
+            if let Number::Value(v, _) = second {
+                return repeat(out, count, a, v);
+            }
+        }
+    }
+    repeat(out, count, 1, a)
+}
+
+// Is a number that begins here the second of `n*v`?
+fn behind_star(bytes: &[u8], at: usize) -> bool {
+    if at == 0 {
+        return false;
+    }
+    if at <= bytes.len() {
+        return bytes[at - 1] == b'*';
+    }
+    false
+}
+
+// Goes on by one number, or by one byte that is none.
+fn step(bytes: &[u8], at: usize, out: &mut [u16], count: usize) -> Reached
+    requires { ⌜ at < length (now bytes) ⌝ }
+    ensures { λ r. ⌜ (at < r .at) × (length (now (out .exit)) ≡ length (now (out .entry))) ⌝ }
+{
+    let found = lines::read_number(bytes, at);
+    let Number::Value(a, end) = found else {
+        return Reached { at: at + 1, count };
+    };
+    if end <= at {
+        return Reached { at: at + 1, count };
+    }
+    if behind_star(bytes, at) {
+        return Reached { at: end, count };
+    }
+    let more = item(bytes, end, a, out, count);
+    Reached {
+        at: end,
+        count: more,
+    }
+}
+
+// Puts the numbers of the bytes into the slice, as far as it goes, and answers how many.
+pub fn parse(bytes: &[u8], out: &mut [u16]) -> usize
+    ensures { λ r. ⌜ length (now (out .exit)) ≡ length (now (out .entry)) ⌝ }
+{
+    let mut at = 0;
+    let mut count = 0;
+    while at < bytes.len() {
+        let s = step(bytes, at, out, count);
+        at = s.at;
+        count = s.count;
+    }
+    count
+}

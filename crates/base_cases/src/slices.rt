@@ -1,0 +1,55 @@
+// A table and a tree in numbers: the symbols, how many marks, the marks, how many rule numbers, these, and the nodes.
+use crate::numbers;
+use crate::say;
+use accept::Answer;
+
+// The part of a slice from a on, at most n long, as far as the slice goes.
+fn part<'a>(all: &'a [u16], a: usize, n: usize) -> &'a [u16] {
+    let len = all.len();
+    if len < a {
+        return &all[len..len];
+    }
+    if n <= len - a {
+        return &all[a..a + n];
+    }
+    &all[a..len]
+}
+
+// Number a of the slice, or 0.
+fn at(all: &[u16], a: usize) -> u16 {
+    if a < all.len() { all[a] } else { 0 }
+}
+
+// Tells what the checks and the acceptance say of a table and a tree.
+fn tell(symbols: u16, marks: &[u16], rules: &[u16], nodes: &[u16]) {
+    say::checked(table::check(symbols, marks, rules));
+    say::checked(tree::check(symbols, nodes));
+    match accept::accept(symbols, marks, rules, nodes) {
+        Answer::Accepted => say::text(b"\taccepted\n"),
+        Answer::Rejected => say::text(b"\trejected\n"),
+        Answer::Refused(f) => {
+            say::refusal(f);
+            say::text(b"\n");
+        }
+    }
+}
+
+fn judge_numbers(all: &[u16]) {
+    let m = at(all, 1) as usize;
+    let r = at(all, 2 + m) as usize;
+    tell(
+        at(all, 0),
+        part(all, 2, m),
+        part(all, 3 + m, r),
+        part(all, 3 + m + r, all.len()),
+    );
+}
+
+// Case n: 16,384 bytes and numbers are enough.
+pub fn judge(n: usize) {
+    let mut bytes = [0u8; 16384];
+    let mut all = [0u16; 16384];
+    let length = say::load(b's', n, &mut bytes);
+    let count = numbers::parse(&bytes[..length], &mut all);
+    judge_numbers(part(&all, 0, count));
+}

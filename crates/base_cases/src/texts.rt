@@ -1,0 +1,117 @@
+// Rule texts: read into slices, written back, and the faulty line of two.
+use crate::say;
+use paper::Refusal;
+use rule_read::Reading;
+use rule_write::Writing;
+
+// Is each number of the slice still 9?
+fn kept(numbers: &[u16]) -> bool {
+    let mut i = 0;
+    while i < numbers.len() {
+        if numbers[i] != 9 {
+            return false;
+        }
+        i += 1;
+    }
+    true
+}
+
+// A refusal, which must leave the slices of 9s as they were.
+fn refused(f: Refusal, marks: &[u16], rules: &[u16]) {
+    say::refusal(f);
+    if kept(marks) {
+        if kept(rules) {
+            say::text(b"\n");
+            return;
+        }
+    }
+    say::text(b"\tslices changed\n");
+}
+
+// The counts of a table, and how many bytes its text has, which must be the text that was read.
+fn write_back(text: &[u8], symbols: u16, marks: &[u16], rules: &[u16]) {
+    let mut out = [0u8; 8192];
+    match rule_write::write_text(symbols, marks, rules, &mut out) {
+        Writing::Refused(f) => say::refusal(f),
+        Writing::Wrote(n) => {
+            say::field(n);
+            if n <= out.len() {
+                if !check::same(text, &out[..n]) {
+                    say::text(b"\tanother text");
+                }
+            }
+        }
+    }
+    say::text(b"\n");
+}
+
+// Reads a text into slices of 9s.
+fn read_into(text: &[u8], marks: &mut [u16], rules: &mut [u16]) {
+    match rule_read::read_text(text, marks, rules) {
+        Reading::Refused(f) => refused(f, marks, rules),
+        Reading::Read(symbols, states, count) => {
+            say::text(b"\ttable");
+            say::field(symbols as usize);
+            say::field(states);
+            say::field(count);
+            if states <= marks.len() {
+                if count <= rules.len() / paper::WIDTH {
+                    write_back(
+                        text,
+                        symbols,
+                        &marks[..states],
+                        &rules[..count * paper::WIDTH],
+                    );
+                }
+            }
+        }
+    }
+}
+
+// Case n.
+pub fn read(n: usize) {
+    let mut bytes = [0u8; 16384];
+    let mut marks = [9u16; 60];
+    let mut rules = [9u16; 2400];
+    let length = say::load(b't', n, &mut bytes);
+    read_into(&bytes[..length], &mut marks, &mut rules);
+}
+
+// A slice for marks that is too short.
+pub fn short_marks() {
+    let mut marks = [9u16; 59];
+    let mut rules = [9u16; 2400];
+    read_into(b"", &mut marks, &mut rules);
+}
+
+// A slice for rules that is too short.
+pub fn short_rules() {
+    let mut marks = [9u16; 60];
+    let mut rules = [9u16; 2399];
+    read_into(b"", &mut marks, &mut rules);
+}
+
+// A slice for a text that is too short.
+pub fn short_text() {
+    let marks = [6u16; 1];
+    let rules = [0u16; 4];
+    let mut out = [0u8; 8191];
+    match rule_write::write_text(1, &marks, &rules, &mut out) {
+        Writing::Refused(f) => say::refusal(f),
+        Writing::Wrote(n) => say::field(n),
+    }
+    say::text(b"\n");
+}
+
+// The faulty line of the texts of pair n: how many bytes, and these.
+pub fn part(n: usize) {
+    let mut sender = [0u8; 4096];
+    let mut receiver = [0u8; 4096];
+    let a = say::load(b'p', n, &mut sender);
+    let b = say::load(b'q', n, &mut receiver);
+    let found = rule_part::faulty_line(&sender[..a], &receiver[..b]);
+    say::field(found.len());
+    say::text(b"\t");
+    say::text(found);
+    say::text(b"\n");
+}
