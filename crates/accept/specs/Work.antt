@@ -5,7 +5,7 @@ use mathlib.Core.Path.{_≡_}
 use mathlib.Core.Logic.{_≢_, _⊎_}
 use mathlib.Core.List.{List}
 use lib.ListN.{length}
-use Rattle.paper.specs.Limits.{limits, at}
+use Rattle.paper.specs.Limits.{limits, at, leafKind, joinKind, epsKind}
 use Rattle.bits.specs.Bits.{word, bitAt}
 use Rattle.tree.specs.Tree.{leafMark, treeAt}
 use Rattle.table.specs.Rules.{Rule, RulesOf, Reach, Has, Final}
@@ -32,10 +32,10 @@ missing f (suc n) = missing f n + (1 - f n)
 
 -- the rules name states below n, and the third number of a leaf or ε rule is 0
 pub record StatesBelow (w : ℕ) (xs : List ℕ) (n : ℕ) : Type 0 where
-  pub third : (k : ℕ) → k * w + w ≤ length xs → at xs (k * w) ≢ 1 → at xs (k * w + 2) ≡ 0
+  pub third : (k : ℕ) → k * w + w ≤ length xs → at xs (k * w) ≢ joinKind → at xs (k * w + 2) ≡ 0
   pub to : (k : ℕ) → k * w + w ≤ length xs → at xs (k * w + 3) < n
-  pub joins : (k : ℕ) → k * w + w ≤ length xs → at xs (k * w) ≡ 1 → (at xs (k * w + 1) < n) × (at xs (k * w + 2) < n)
-  pub epsilons : (k : ℕ) → k * w + w ≤ length xs → at xs (k * w) ≡ 2 → at xs (k * w + 1) < n
+  pub joins : (k : ℕ) → k * w + w ≤ length xs → at xs (k * w) ≡ joinKind → (at xs (k * w + 1) < n) × (at xs (k * w + 2) < n)
+  pub epsilons : (k : ℕ) → k * w + w ≤ length xs → at xs (k * w) ≡ epsKind → at xs (k * w + 1) < n
 
 -- node i is a leaf, or its children are earlier
 abbrev pub Earlier : List ℕ → ℕ → Type 0
@@ -72,8 +72,8 @@ pub record Grown (b : ℕ) (s : List ℕ) (i : ℕ) (t : List ℕ) : Type 0 wher
 
 -- rule k gives node i its target: a leaf rule of the node's symbol, or a join rule whose states the children have
 pub data Fits (b w : ℕ) (xs : List ℕ) (k : ℕ) (ns : List ℕ) (i : ℕ) (s : List ℕ) : Type 0 where
-  fitsLeaf : at ns (2 * i + 1) ≡ leafMark → at xs (k * w) ≡ 0 → at xs (k * w + 1) ≡ at ns (2 * i) → Fits b w xs k ns i s
-  fitsJoin : at ns (2 * i + 1) ≢ leafMark → at xs (k * w) ≡ 1 → In b s (at ns (2 * i)) (at xs (k * w + 1))
+  fitsLeaf : at ns (2 * i + 1) ≡ leafMark → at xs (k * w) ≡ leafKind → at xs (k * w + 1) ≡ at ns (2 * i) → Fits b w xs k ns i s
+  fitsJoin : at ns (2 * i + 1) ≢ leafMark → at xs (k * w) ≡ joinKind → In b s (at ns (2 * i)) (at xs (k * w + 1))
       → In b s (at ns (2 * i + 1)) (at xs (k * w + 2)) → Fits b w xs k ns i s
 
 -- what the rules k with K k add to the set of node i before any ε step
@@ -85,7 +85,7 @@ pub record Gathered (b w : ℕ) (xs : List ℕ) (K : ℕ → Type 0) (ns : List 
 
 -- rule k adds nothing to the set of node i
 abbrev pub RowClosed : ℕ → ℕ → List ℕ → List ℕ → ℕ → ℕ → Type 0
-RowClosed b w xs s i k = at xs (k * w) ≡ 2 → In b s i (at xs (k * w + 1)) → In b s i (at xs (k * w + 3))
+RowClosed b w xs s i k = at xs (k * w) ≡ epsKind → In b s i (at xs (k * w + 1)) → In b s i (at xs (k * w + 3))
 
 -- ε steps put r states into the set of node i
 pub record Stepped (b : ℕ) (R : Rule → Type 0) (s : List ℕ) (i : ℕ) (t : List ℕ) (r : ℕ) : Type 0 where

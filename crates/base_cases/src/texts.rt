@@ -30,7 +30,7 @@ fn refused(f: Refusal, marks: &[u16], rules: &[u16]) {
 
 // The counts of a table, and how many bytes its text has, which must be the text that was read.
 fn write_back(text: &[u8], symbols: u16, marks: &[u16], rules: &[u16]) {
-    let mut out = [0u8; 8192];
+    let mut out = [0u8; paper::TEXT];
     match rule_write::write_text(symbols, marks, rules, &mut out) {
         Writing::Refused(f) => say::refusal(f),
         Writing::Wrote(n) => {
@@ -71,23 +71,23 @@ fn read_into(text: &[u8], marks: &mut [u16], rules: &mut [u16]) {
 // Case n.
 pub fn read(n: usize) {
     let mut bytes = [0u8; 16384];
-    let mut marks = [9u16; 60];
-    let mut rules = [9u16; 2400];
+    let mut marks = [9u16; paper::STATES];
+    let mut rules = [9u16; paper::RULE_NUMBERS];
     let length = say::load(b't', n, &mut bytes);
     read_into(&bytes[..length], &mut marks, &mut rules);
 }
 
 // A slice for marks that is too short.
 pub fn short_marks() {
-    let mut marks = [9u16; 59];
-    let mut rules = [9u16; 2400];
+    let mut marks = [9u16; paper::STATES - 1];
+    let mut rules = [9u16; paper::RULE_NUMBERS];
     read_into(b"", &mut marks, &mut rules);
 }
 
 // A slice for rules that is too short.
 pub fn short_rules() {
-    let mut marks = [9u16; 60];
-    let mut rules = [9u16; 2399];
+    let mut marks = [9u16; paper::STATES];
+    let mut rules = [9u16; paper::RULE_NUMBERS - 1];
     read_into(b"", &mut marks, &mut rules);
 }
 
@@ -95,7 +95,7 @@ pub fn short_rules() {
 pub fn short_text() {
     let marks = [6u16; 1];
     let rules = [0u16; 4];
-    let mut out = [0u8; 8191];
+    let mut out = [0u8; paper::TEXT - 1];
     match rule_write::write_text(1, &marks, &rules, &mut out) {
         Writing::Refused(f) => say::refusal(f),
         Writing::Wrote(n) => say::field(n),

@@ -1,5 +1,5 @@
 -- A set of numbers as bits of a list of words.
-use Prim.Native.Nat.{ℕ, suc, zero, _+_, _*_, _/_, _%_, _≤_, _<_}
+use Prim.Native.Nat.{ℕ, suc, zero, _*_, _/_, _%_, _≤_, _<_}
 use mathlib.Core.Path.{_≡_}
 use mathlib.Core.Logic.{_≢_}
 use mathlib.Core.List.{List}

@@ -1,7 +1,6 @@
-// Numbers and lines of texts. One decimal number is read and written, each the other's inverse; a text is cut into
-// lines; a line of a letter and two or three numbers is read and written.
-// Every public function takes every input and says what it answers and what each lent slice holds then:
-// a reader that finds nothing answers the first byte that is wrong, a writer that lacks room changes nothing.
+// Lines and numbers of texts, read: one decimal number; a text cut into lines; a line of a letter and two or three numbers.
+// Every public function takes every text and every place: what it does not find it answers by the first byte that is wrong, or by an
+// empty part. specs/ has how numbers and lines are written, and proofs/ that reading and writing are inverse to each other.
 ghost use mathlib.Core.Path.{_≡_};
 ghost use lib.ListN.{drop};
 ghost use Rattle.lines.specs.Number.{digit, number};

@@ -1,4 +1,5 @@
--- The limits of tables, trees and texts, each named once. Definitions and laws take them as parameters.
+-- The limits of tables, trees and texts, each named once, which definitions and laws take as parameters; the kinds of a rule; and reading
+-- a number of a list.
 use Prim.Native.Nat.{ℕ}
 use mathlib.Core.List.{List}
 use lib.ListN.{getD}

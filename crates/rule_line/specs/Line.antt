@@ -48,7 +48,7 @@ said t (Wrong i) = Faulty i
 unfoldable pub line : List ℕ → Line
 line x = cond (eqb (count (getD x 0 0)) 0) (Faulty 0) (said (getD x 0 0) (fields (count (getD x 0 0)) x))
 
--- how a rule is written, by its kind, 0, 1 or else 2
+-- how a rule is written, by its kind: a leaf rule, a join rule, or else an ε rule; only a join rule's right is written
 unfoldable pub ruleText : ℕ → ℕ → ℕ → ℕ → List ℕ
 ruleText k a b q = cond (eqb k leafKind) (letters letterL 2 a q 0) (cond (eqb k joinKind) (letters letterP 3 a b q) (letters letterE 2 a q 0))
 

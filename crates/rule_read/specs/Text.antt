@@ -7,7 +7,7 @@ use native.Mathlib.Decide.{ℕ-discrete, decLe, decLt}
 use lib.ListN.{length, getD, take}
 use Rattle.paper.specs.Limits.{Limits}
 use Rattle.paper.specs.Told.{Told, refused, holds, refusal, filled}
-use Rattle.paper.specs.First.{First, Clear, first}
+use Rattle.paper.specs.First.{first}
 use Rattle.paper.specs.Tests.{dec-or}
 use Rattle.table.specs.Rules.{markFor}
 use Rattle.table.specs.Check.{TooLarge, BadSort, OutOfRange, HasRow, tooLarge?, badSort?, outOfRange?, hasRow?}
@@ -22,7 +22,7 @@ use Rattle.rule_read.specs.declared.Reading.the-variants.{Read, Refused}
 unfoldable pub saidBy : List ℕ → List Line
 saidBy s = map line (lines s)
 
--- the mark that a line adds to the marks, and the numbers that it adds to the rules, as many as a rule has
+-- the mark that a line adds to the marks, and the four numbers that it adds to the rules (the width of a rule, as the laws ask)
 unfoldable pub markOf : Line → List ℕ
 markOf (Head a b) = []
 markOf (State q s f) = markFor s f ∷ []
@@ -70,9 +70,15 @@ outOfOrder? n m q = dec-or (decLe _ _) (Dec·not (ℕ-discrete _ _))
 abbrev pub TooEarly : ℕ → ℕ → Type 0
 TooEarly n m = m < n
 
+abbrev pub tooEarly? : (n m : ℕ) → Dec (TooEarly n m)
+tooEarly? n m = decLt m n
+
 -- a rule line is one too many, behind the rules rs
 abbrev pub TooMany : Limits → List ℕ → Type 0
 TooMany L rs = L .rules ≤ length rs / L .width
+
+abbrev pub tooMany? : (L : Limits) (rs : List ℕ) → Dec (TooMany L rs)
+tooMany? L rs = decLe (L .rules) (length rs / L .width)
 
 -- the lowest number that is wrong with the first line, or 0
 unfoldable pub headFault : Limits → Line → ℕ
@@ -88,9 +94,8 @@ stateLineFault n m q s f = ite (outOfOrder? n m q) 3 (ite (badSort? s f) 5 0)
 
 unfoldable pub ruleLineFault : Limits → ℕ → ℕ → ℕ → List ℕ → ℕ → ℕ → ℕ → ℕ → ℕ
 ruleLineFault L y n m rs k a b q =
-    let r = length rs / L .width in
-    ite (decLt m n) 3
-    (ite (decLe (L .rules) r) 4 (ite (outOfRange? y n k a b q) 5 (ite (hasRow? (L .width) rs r k a b q) 6 0)))
+    ite (tooEarly? n m) 3
+    (ite (tooMany? L rs) 4 (ite (outOfRange? y n k a b q) 5 (ite (hasRow? (L .width) rs (length rs / L .width) k a b q) 6 0)))
 
 unfoldable pub lineFault : Limits → ℕ → ℕ → ℕ → List ℕ → Line → ℕ
 lineFault L y n m rs (Head a b) = 3

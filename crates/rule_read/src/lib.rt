@@ -42,8 +42,8 @@ fn refuse(number: u16, place: usize) -> Reading
 }
 
 // The lowest number that is wrong with an S line behind m of n S lines, or 0.
-fn state_fault(n: u16, m: usize, state: u16, sort: u16, last: u16) -> u16
-    ensures { λ r. ⌜ r ≡ stateLineFault n m state sort last ⌝ }
+fn state_fault(n: u16, m: usize, state: u16, sort: u16, accepting: u16) -> u16
+    ensures { λ r. ⌜ r ≡ stateLineFault n m state sort accepting ⌝ }
 {
     if n as usize <= m {
         return paper::ORDER;
@@ -51,7 +51,7 @@ fn state_fault(n: u16, m: usize, state: u16, sort: u16, last: u16) -> u16
     if state as usize != m {
         return paper::ORDER;
     }
-    if table::bad_sort(sort, last) {
+    if table::bad_sort(sort, accepting) {
         return paper::RANGE;
     }
     0

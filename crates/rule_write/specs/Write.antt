@@ -1,8 +1,8 @@
 -- How a table is written as a rule text, and what the writer tells.
-use Prim.Native.Nat.{ℕ, zero, suc, _+_, _*_, _/_, _%_, _<_}
+use Prim.Native.Nat.{ℕ, zero, suc, _+_, _*_, _/_, _<_}
 use mathlib.Core.Path.{_≡_}
 use mathlib.Core.Logic.{ite}
-use mathlib.Core.List.{List, [], _∷_, _++_}
+use mathlib.Core.List.{List, [], _++_}
 use native.Mathlib.Decide.{decLt}
 use lib.ListN.{length}
 use Rattle.paper.specs.Limits.{Limits, at}
@@ -35,11 +35,18 @@ rulesText w xs (suc i) = rulesText w xs i ++ lineText (ruleLine w xs i)
 unfoldable pub tableText : ℕ → ℕ → List ℕ → List ℕ → List ℕ
 tableText w symbols ms xs = lineText (Head symbols (length ms)) ++ (statesText ms (length ms) ++ rulesText w xs (length xs / w))
 
+-- 1: the slice for the text is too short
+abbrev pub NoRoom : Limits → List ℕ → Type 0
+NoRoom L O = length O < L .text
+
+abbrev pub noRoom? : (L : Limits) (O : List ℕ) → Dec (NoRoom L O)
+noRoom? L O = decLt (length O) (L .text)
+
 -- what the writer tells that is lent O for the text: the table's refusals, then 1
 unfoldable pub writeTold : Limits → ℕ → List ℕ → List ℕ → List ℕ → Told
 writeTold L symbols ms xs O =
     after (tableChecked L symbols ms xs)
-    (ite (decLt (length O) (L .text)) (refused 1 0 0) (written (length (tableText (L .width) symbols ms xs))))
+    (ite (noRoom? L O) (refused 1 0 0) (written (length (tableText (L .width) symbols ms xs))))
 
 -- what the writer's answer tells
 abbrev pub told : Writing → Told

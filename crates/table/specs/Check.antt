@@ -10,7 +10,7 @@ use Rattle.paper.specs.Limits.{Limits, at, leafKind, joinKind, epsKind}
 use Rattle.paper.specs.Told.{Told, refused, passes}
 use Rattle.paper.specs.First.{first}
 use Rattle.paper.specs.Tests.{dec-or, dec-below}
-use Rattle.table.specs.Rules.{Row, sortOf, finalOf}
+use Rattle.table.specs.Rules.{Row, mostSort, mostFinal, sortOf, finalOf}
 use Rattle.table.specs.RowTest.{row?}
 
 -- 4: symbols outside 1 to the most, too many states, too many rules (a slice: its length by the width, rounded down)
@@ -21,11 +21,11 @@ TooLarge L symbols states rules = (symbols ≡ 0) ⊎ ((L .symbols < symbols) �
 abbrev pub Ragged : Limits → List ℕ → Type 0
 Ragged L xs = length xs % L .width ≢ 0
 
--- 5: a sort is 1, 2 or 3, and final 0 or 1
+-- 5: a sort other than 1, 2 and 3, or a final other than 0 and 1
 abbrev pub BadSort : ℕ → ℕ → Type 0
-BadSort s f = (s ≡ 0) ⊎ ((3 < s) ⊎ (1 < f))
+BadSort s f = (s ≡ 0) ⊎ ((mostSort < s) ⊎ (mostFinal < f))
 
--- 5: a state mark has a bad sort or final
+-- 5: a state mark outside 2 to 7, whose sort is none of the three
 abbrev pub BadMark : ℕ → Type 0
 BadMark m = BadSort (sortOf m) (finalOf m)
 

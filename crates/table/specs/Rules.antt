@@ -42,6 +42,13 @@ pub data Has (R : Rule → Type 0) : Tree → ℕ → Type 0 where
   atJoin : {s t : Tree} {l r q : ℕ} → Has R s l → Has R t r → R (joinRule l r q) → Has R (join s t) q
   atEps : {t : Tree} {p q : ℕ} → Has R t p → R (epsRule p q) → Has R t q
 
+-- the greatest sort and the greatest value of final
+abbrev pub mostSort : ℕ
+mostSort = 3
+
+abbrev pub mostFinal : ℕ
+mostFinal = 1
+
 -- a state mark is 2 × sort + final
 abbrev pub markFor : ℕ → ℕ → ℕ
 markFor sort final = 2 * sort + final

@@ -48,8 +48,8 @@ pub fn too_large(symbols: u16, states: usize, rules: usize) -> bool
 }
 
 // Is a sort none of the three, or a final mark neither 0 nor 1?
-pub fn bad_sort(sort: u16, last: u16) -> bool
-    ensures { λ r. ⌜ Tells r (BadSort sort last) ⌝ }
+pub fn bad_sort(sort: u16, accepting: u16) -> bool
+    ensures { λ r. ⌜ Tells r (BadSort sort accepting) ⌝ }
 {
     if sort == 0 {
         return true;
@@ -57,7 +57,7 @@ pub fn bad_sort(sort: u16, last: u16) -> bool
     if MOST_SORT < sort {
         return true;
     }
-    MOST_FINAL < last
+    MOST_FINAL < accepting
 }
 
 // The first state whose mark is out of range, or the number of states.
