@@ -83,7 +83,7 @@ fn step(bytes: &[u8], at: usize, out: &mut [u16], count: usize) -> Reached
 }
 
 // Puts the numbers of the bytes into the slice, as far as it goes, and answers how many.
-pub fn parse(bytes: &[u8], out: &mut [u16]) -> usize
+pub(crate) fn parse(bytes: &[u8], out: &mut [u16]) -> usize
     ensures { λ r. ⌜ length (now (out .exit)) ≡ length (now (out .entry)) ⌝ }
 {
     let mut at = 0;

@@ -6,29 +6,29 @@ use libc::STDOUT_FILENO;
 use paper::Checked;
 use paper::Refusal;
 
-pub fn text(bytes: &[u8]) {
+pub(crate) fn text(bytes: &[u8]) {
     io::write_all(STDOUT_FILENO, bytes);
 }
 
-pub fn number(n: usize) {
+pub(crate) fn number(n: usize) {
     io::print_decimal(STDOUT_FILENO, n as u64);
 }
 
 // A tab and a number.
-pub fn field(n: usize) {
+pub(crate) fn field(n: usize) {
     text(b"\t");
     number(n);
 }
 
 // A refusal: number, side and place.
-pub fn refusal(f: Refusal) {
+pub(crate) fn refusal(f: Refusal) {
     text(b"\trefused");
     field(f.number as usize);
     field(f.side as usize);
     field(f.place);
 }
 
-pub fn checked(c: Checked) {
+pub(crate) fn checked(c: Checked) {
     match c {
         Checked::Passes => text(b"\tpasses"),
         Checked::Refused(f) => refusal(f),
@@ -41,7 +41,7 @@ fn name(kind: u8, n: usize) -> [u8; 3] {
 }
 
 // Writes the name of a case, and reads its file into the slice: how many bytes, none where it can't be opened.
-pub fn load(kind: u8, n: usize, bytes: &mut [u8]) -> usize
+pub(crate) fn load(kind: u8, n: usize, bytes: &mut [u8]) -> usize
     ensures { λ r. ⌜ (r ≤ length (now (bytes .exit))) × (length (now (bytes .exit)) ≡ length (now (bytes .entry))) ⌝ }
 {
     let path = name(kind, n);

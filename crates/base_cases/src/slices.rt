@@ -46,7 +46,7 @@ fn judge_numbers(all: &[u16]) {
 }
 
 // Case n: 16,384 bytes and numbers are enough.
-pub fn judge(n: usize) {
+pub(crate) fn judge(n: usize) {
     let mut bytes = [0u8; 16384];
     let mut all = [0u16; 16384];
     let length = say::load(b's', n, &mut bytes);

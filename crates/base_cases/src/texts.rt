@@ -69,7 +69,7 @@ fn read_into(text: &[u8], marks: &mut [u16], rules: &mut [u16]) {
 }
 
 // Case n.
-pub fn read(n: usize) {
+pub(crate) fn read(n: usize) {
     let mut bytes = [0u8; 16384];
     let mut marks = [9u16; paper::STATES];
     let mut rules = [9u16; paper::RULE_NUMBERS];
@@ -78,21 +78,21 @@ pub fn read(n: usize) {
 }
 
 // A slice for marks that is too short.
-pub fn short_marks() {
+pub(crate) fn short_marks() {
     let mut marks = [9u16; paper::STATES - 1];
     let mut rules = [9u16; paper::RULE_NUMBERS];
     read_into(b"", &mut marks, &mut rules);
 }
 
 // A slice for rules that is too short.
-pub fn short_rules() {
+pub(crate) fn short_rules() {
     let mut marks = [9u16; paper::STATES];
     let mut rules = [9u16; paper::RULE_NUMBERS - 1];
     read_into(b"", &mut marks, &mut rules);
 }
 
 // A slice for a text that is too short.
-pub fn short_text() {
+pub(crate) fn short_text() {
     let marks = [6u16; 1];
     let rules = [0u16; 4];
     let mut out = [0u8; paper::TEXT - 1];
@@ -104,7 +104,7 @@ pub fn short_text() {
 }
 
 // The faulty line of the texts of pair n: how many bytes, and these.
-pub fn part(n: usize) {
+pub(crate) fn part(n: usize) {
     let mut sender = [0u8; 4096];
     let mut receiver = [0u8; 4096];
     let a = say::load(b'p', n, &mut sender);

@@ -7,7 +7,7 @@ use native.Mathlib.Omega.{arith}
 use lib.Dec.{ltb, eqb}
 use lib.ListN.{length, getD, drop, length-drop, length-append, drop-of-length-le}
 use borrow.Author.Tests.{eq-eqb, ne-eqb, eqb-true}
-use Rattle.lines.specs.Number.{mostNumber, digit, number, digits, decimal}
+use Rattle.lines.specs.Number.{mostNumber, digit, digits, decimal}
 use Rattle.lines.specs.Lines.{tab, lf, lines}
 use Rattle.lines.specs.Fields.{field, ends, fields, entry, last, letters}
 use Rattle.lines.specs.declared.Number.{Number}

@@ -1,10 +1,9 @@
 -- `first` refuses exactly the first fault, and goes on exactly where there is none. Assumes nothing.
-use Prim.Native.Nat.{ℕ, zero, suc, _+_, _<_}
+use Prim.Native.Nat.{ℕ, zero, suc, _+_}
 use mathlib.Core.Path.{_≡_, refl, sym, ap, _∙_}
-use mathlib.Core.Logic.{_≢_, ite, if-pos, if-neg, by-cases, _⊎_, inl, inr, _↔_}
-use native.Mathlib.Decide.{ℕ-discrete, decLt}
+use mathlib.Core.Logic.{if-pos, if-neg, by-cases, _⊎_, inl, inr}
+use native.Mathlib.Decide.{ℕ-discrete}
 use native.Mathlib.Omega.{arith}
-use borrow.Author.Count.{below-more}
 use Rattle.paper.specs.Told.{Told, refused}
 use Rattle.paper.specs.First.{First, Clear, first}
 

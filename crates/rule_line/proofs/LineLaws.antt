@@ -1,13 +1,12 @@
 -- A line that was written is read as what it says, what was read of a line is written as that line, and a written line is one line
 -- of a text. Assumes nothing.
-use Prim.Native.Nat.{ℕ, _+_, _≤_, _<_}
-use mathlib.Core.Path.{_≡_, refl, ap, sym, _∙_}
+use Prim.Native.Nat.{ℕ, _+_, _≤_}
+use mathlib.Core.Path.{_≡_, refl, sym, _∙_}
 use mathlib.Core.Logic.{_≢_}
 use mathlib.Core.List.{List, [], _∷_, _++_}
-use mathlib.Core.Bool.{cond}
 use native.Mathlib.Omega.{arith}
 use lib.Dec.{eqb}
-use lib.ListN.{length, getD}
+use lib.ListN.{getD}
 use borrow.Author.Tests.{ne-eqb, eqb-true, eqb-false}
 use Rattle.lines.specs.Number.{mostNumber}
 use Rattle.lines.specs.Lines.{lines}
@@ -17,8 +16,8 @@ use Rattle.lines.specs.declared.Fields.{Fields}
 use Rattle.lines.specs.declared.Fields.the-variants.{Got, Wrong}
 use Rattle.lines.proofs.Tests.{split}
 use Rattle.put.proofs.PutLaws.{put-none}
-use Rattle.lines.proofs.FieldLaws.{letters-two, letters-three, letters-shown, letters-same, lines-letters}
-use Rattle.rule_line.specs.Line.{letterT, letterS, letterL, letterP, letterE, count, says, said, line, ruleText, lineText}
+use Rattle.lines.proofs.FieldLaws.{letters-two, letters-three, letters-shown, lines-letters}
+use Rattle.rule_line.specs.Line.{letterT, letterS, letterL, letterP, letterE, count, says, line, ruleText, lineText}
 use Rattle.rule_line.specs.declared.Line.{Line}
 use Rattle.rule_line.specs.declared.Line.the-variants.{Head, State, Rule, Faulty}
 

@@ -1,11 +1,11 @@
 -- How many marks and rules the lines before line k say, where no line before it has a fault. Assumes nothing.
 use Prim.Native.Nat.{ℕ, zero, suc, _+_, _*_, _/_, _≤_, _<_}
 use mathlib.Core.Path.{_≡_, refl, sym, ap, _∙_}
-use mathlib.Core.Logic.{_≢_, _⊎_, inl, inr, ⊎-elim, by-cases}
-use mathlib.Core.List.{List, [], _∷_, _++_}
+use mathlib.Core.Logic.{inl, inr, by-cases}
+use mathlib.Core.List.{List, [], _∷_}
 use native.Mathlib.Decide.{ℕ-discrete, decLt}
 use native.Mathlib.Numerals.{add-one}
-use native.Mathlib.Nat.{add-mul, mul-div-cancel, mul-le-mul-right}
+use native.Mathlib.Nat.{add-mul, mul-div-cancel}
 use native.Mathlib.Omega.{arith}
 use lib.ListN.{length, take, length-append}
 use lib.Seq.{take-length}
@@ -13,11 +13,11 @@ use Rattle.paper.specs.Limits.{Limits, at}
 use Rattle.paper.specs.First.{Clear}
 use Rattle.table.specs.Check.{TooLarge, BadSort}
 use Rattle.rule_line.specs.declared.Line.{Line}
-use Rattle.rule_line.specs.declared.Line.the-variants.{Head, State, Rule, Faulty}
-use Rattle.rule_read.specs.Text.{markOf, ruleOf, marksOf, rulesOf, symbolsOf, statesOf, OutOfOrder, headFault, faultAt, TooSoon}
+use Rattle.rule_line.specs.declared.Line.the-variants.{Head}
+use Rattle.rule_read.specs.Text.{markOf, ruleOf, marksOf, rulesOf, symbolsOf, statesOf, headFault, faultAt, TooSoon}
 use Rattle.rule_read.specs.Work.{sayingAt, rowsOf}
 use Rattle.rule_read.proofs.Verdict.{HeadVerdict, shape, stateFirst, ruleFirst, size, none, head-fault, head-verdict, Right, state, rule, line-right, fault-behind}
-use Rattle.rule_read.proofs.Said.{Wide, wide-positive, rule-length, take-more, marks-more, rules-more}
+use Rattle.rule_read.proofs.Said.{Wide, wide-positive, rule-length, marks-more, rules-more}
 
 -- the head
 pub head-right : (L : Limits) (l : Line) → headFault L l ≡ 0 → (y n : ℕ) × (l ≡ Head y n) × ¬ TooLarge L y n 0

@@ -1,15 +1,15 @@
 -- A text tells the first fault that `faultAt` finds, and 1 is told exactly without room; a told table has no fault. Assumes nothing.
-use Prim.Native.Nat.{ℕ, _+_, _/_, _≤_, _<_}
+use Prim.Native.Nat.{ℕ, _+_, _/_, _≤_}
 use mathlib.Core.Path.{_≡_, refl, sym, _∙_}
-use mathlib.Core.Logic.{_≢_, _⊎_, ⊎-elim, _↔_, if-pos, if-neg, by-cases}
+use mathlib.Core.Logic.{_⊎_, ⊎-elim, _↔_, if-pos, if-neg, by-cases}
 use mathlib.Core.List.{List}
 use native.Mathlib.Omega.{arith}
 use lib.ListN.{length}
 use Rattle.paper.specs.Limits.{Limits}
-use Rattle.paper.specs.Told.{Told, refused, holds}
-use Rattle.paper.specs.First.{First, Clear, first}
+use Rattle.paper.specs.Told.{refused, holds}
+use Rattle.paper.specs.First.{First, Clear}
 use Rattle.paper.proofs.FirstLaws.{first-clear, first-fault, first-or-clear}
-use Rattle.rule_read.specs.Text.{saidBy, marksOf, rulesOf, symbolsOf, statesOf, faultAt, TooSoon, textTold}
+use Rattle.rule_read.specs.Text.{saidBy, marksOf, rulesOf, symbolsOf, faultAt, TooSoon, textTold}
 use Rattle.rule_read.specs.Text.{tooSoon?, NoRoom, noRoom?, readTold}
 use Rattle.rule_read.proofs.Verdict.{fault-numbered}
 

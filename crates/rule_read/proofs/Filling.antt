@@ -1,6 +1,6 @@
 -- From the work slices to the lent ones. Assumes nothing.
-use Prim.Native.Nat.{ℕ, _+_, _*_, _≤_, _<_}
-use mathlib.Core.Path.{_≡_, refl, ap, sym, _∙_}
+use Prim.Native.Nat.{ℕ, _+_, _*_, _≤_}
+use mathlib.Core.Path.{_≡_, ap, sym, _∙_}
 use mathlib.Core.Logic.{⊎-elim}
 use mathlib.Core.List.{List, _++_}
 use native.Mathlib.Omega.{arith}
@@ -10,7 +10,7 @@ use Rattle.paper.specs.Limits.{Limits}
 use Rattle.paper.specs.Told.{Told, refused, holds, refusal, isRefusal, filled}
 use Rattle.paper.specs.declared.Refusal.{Refusal}
 use Rattle.rule_read.specs.Text.{saidBy, marksOf, rulesOf, NoRoom, readTold, told, Reads}
-use Rattle.rule_read.specs.Work.{Fronts, Answers}
+use Rattle.rule_read.specs.Work.{Answers}
 use Rattle.rule_read.specs.declared.Reading.{Reading}
 use Rattle.rule_read.specs.declared.Reading.the-variants.{Read, Refused}
 use Rattle.rule_read.proofs.Exact.{read-short, read-on}

@@ -1,22 +1,20 @@
 -- The loop over the lines behind the head, as laws: what holds at its head, one more line, and its ends. Assumes nothing.
-use Prim.Native.Nat.{ℕ, _+_, _-_, _*_, _/_, _≤_, _<_}
+use Prim.Native.Nat.{ℕ, _+_, _-_, _*_, _≤_, _<_}
 use mathlib.Core.Path.{_≡_, refl, ap, sym, _∙_}
 use mathlib.Core.Logic.{_≢_, inr, inl}
-use mathlib.Core.List.{List, [], _∷_, _++_}
+use mathlib.Core.List.{List, [], _∷_}
 use native.Mathlib.Omega.{arith}
 use borrow.Author.Count.{below-more}
 use lib.ListN.{length, take, drop}
 use lib.Seq.{take-length}
 use Rattle.paper.specs.Limits.{Limits}
-use Rattle.paper.specs.Told.{Told, refused, holds}
-use Rattle.paper.specs.First.{First, Clear}
-use Rattle.paper.specs.declared.Refusal.{Refusal}
+use Rattle.paper.specs.Told.{refused}
+use Rattle.paper.specs.First.{Clear}
 use Rattle.lines.specs.Lines.{lineEnd, Starts}
-use Rattle.lines.proofs.LinesLaws.{starts-next, lines-at}
+use Rattle.lines.proofs.LinesLaws.{starts-next}
 use Rattle.table.specs.Check.{TooLarge}
 use Rattle.rule_line.specs.Line.{line}
 use Rattle.rule_line.specs.declared.Line.{Line}
-use Rattle.rule_line.specs.declared.Line.the-variants.{Head, State, Rule, Faulty}
 use Rattle.rule_read.specs.Text.{saidBy, marksOf, rulesOf, symbolsOf, statesOf, lineFault, faultAt, textTold, told}
 use Rattle.rule_read.specs.Work.{sayingAt, Room, Fronts, Fits, Stored, Headed, Answers}
 use Rattle.rule_read.specs.declared.Reading.{Reading}

@@ -1,6 +1,6 @@
 -- The first line of a text: an empty text, a fault in the first line, a head. Assumes nothing.
 use Prim.Native.Nat.{ℕ, _+_, _-_, _≤_, _<_}
-use mathlib.Core.Path.{_≡_, refl, ap, sym, _∙_}
+use mathlib.Core.Path.{_≡_, ap, sym, _∙_}
 use mathlib.Core.Logic.{_≢_}
 use mathlib.Core.List.{List}
 use native.Mathlib.Omega.{arith}
@@ -13,7 +13,7 @@ use Rattle.table.specs.Check.{TooLarge}
 use Rattle.rule_line.specs.Line.{line}
 use Rattle.rule_line.specs.declared.Line.{Line}
 use Rattle.rule_line.specs.declared.Line.the-variants.{Head, State, Rule, Faulty}
-use Rattle.rule_read.specs.Text.{saidBy, faultAt, textTold}
+use Rattle.rule_read.specs.Text.{saidBy, faultAt}
 use Rattle.rule_read.specs.Work.{sayingAt, Headed, Answers}
 use Rattle.rule_read.specs.declared.Reading.{Reading}
 use Rattle.rule_read.specs.declared.Reading.the-variants.{Refused}

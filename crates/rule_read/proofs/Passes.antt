@@ -1,7 +1,7 @@
 -- The table that a text tells passes the check of tables. Assumes nothing.
 use Prim.Native.Nat.{ℕ, zero, suc, _+_, _-_, _*_, _/_, _%_, _≤_, _<_}
 use mathlib.Core.Path.{_≡_, refl, sym, ap, _∙_}
-use mathlib.Core.Logic.{_≢_, _⊎_, inl, inr, ⊎-elim, by-cases}
+use mathlib.Core.Logic.{_⊎_, inl, inr, ⊎-elim, by-cases}
 use mathlib.Core.List.{List, [], _∷_, _++_, append-nil}
 use native.Mathlib.Decide.{ℕ-discrete, decLt}
 use native.Mathlib.Numerals.{add-one}
@@ -12,7 +12,7 @@ use lib.Seq.{getD-append-add, getD-at, take-length}
 use Rattle.paper.specs.Limits.{Limits, at}
 use Rattle.paper.specs.Told.{holds, passes}
 use Rattle.paper.specs.First.{Clear}
-use Rattle.table.specs.Check.{TooLarge, Ragged, BadMark, Misshapen, OutOfRange, HasRow, GoodRule, Sound, tableChecked, BadSort}
+use Rattle.table.specs.Check.{TooLarge, BadMark, Misshapen, OutOfRange, HasRow, GoodRule, Sound, tableChecked, BadSort}
 use Rattle.table.proofs.Exact.{passes-exactly}
 use Rattle.rule_line.specs.Line.{line}
 use Rattle.rule_line.specs.declared.Line.{Line}

@@ -1,7 +1,7 @@
 -- The rows at the front of a list are those of the front alone. Assumes nothing.
 use Prim.Native.Nat.{ℕ, _+_, _*_, _/_, _≤_, _<_}
 use mathlib.Core.Path.{_≡_, sym, ap, _∙_}
-use mathlib.Core.List.{List, [], _∷_, _++_}
+use mathlib.Core.List.{List, _++_}
 use native.Mathlib.Nat.{add-mul, mul-div-cancel, mul-le-mul-right}
 use native.Mathlib.Omega.{arith}
 use lib.ListN.{length, take, drop, length-append, take-append-drop, List·getD-append}
@@ -9,7 +9,6 @@ use lib.Seq.{length-take-le}
 use Rattle.paper.specs.Limits.{Limits, at}
 use Rattle.table.specs.Rules.{Row}
 use Rattle.table.specs.Check.{OutOfRange, HasRow}
-use Rattle.rule_line.specs.declared.Line.the-variants.{Rule}
 use Rattle.rule_read.specs.Text.{ruleOf, ruleLineFault}
 use Rattle.rule_read.proofs.Verdict.{rule-many, rule-range, rule-again, rule-none}
 use Rattle.rule_read.proofs.Said.{Wide, wide-positive}

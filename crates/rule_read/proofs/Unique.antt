@@ -1,10 +1,9 @@
 -- What the contract of the reader says determines its answer and both slices. Assumes nothing.
 use Prim.Native.Nat.{ℕ}
-use mathlib.Core.Path.{_≡_, refl, ap, sym, _∙_}
+use mathlib.Core.Path.{_≡_, ap, sym, _∙_}
 use mathlib.Core.List.{List}
-use native.Mathlib.Omega.{arith}
 use Rattle.paper.specs.Limits.{Limits}
-use Rattle.paper.specs.Told.{refused, holds, refusal}
+use Rattle.paper.specs.Told.{holds}
 use Rattle.paper.proofs.ToldLaws.{refusal-unique}
 use Rattle.rule_read.specs.Text.{told, Reads}
 use Rattle.rule_read.specs.declared.Reading.{Reading}

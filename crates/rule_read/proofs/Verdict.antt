@@ -1,7 +1,7 @@
 -- What is wrong with a line, case by case: the numbers that the definitions give are exactly these. Assumes nothing.
-use Prim.Native.Nat.{ℕ, zero, suc, _+_, _*_, _/_, _≤_, _<_}
+use Prim.Native.Nat.{ℕ, zero, suc, _/_, _≤_, _<_}
 use mathlib.Core.Path.{_≡_, refl, sym, _∙_}
-use mathlib.Core.Logic.{_≢_, _⊎_, inl, inr, ⊎-elim, ite, if-pos, if-neg, by-cases}
+use mathlib.Core.Logic.{_⊎_, inl, inr, ite, if-pos, if-neg, by-cases}
 use mathlib.Core.List.{List}
 use native.Mathlib.Decide.{decLe, decLt}
 use native.Mathlib.Omega.{arith}

@@ -1,6 +1,6 @@
 -- The number that `faultAt` gives is the lowest that is wrong with a line, so a text tells exactly the refusals of `TextRefused`.
 -- Assumes nothing.
-use Prim.Native.Nat.{ℕ, zero, suc, _+_, _/_, _<_}
+use Prim.Native.Nat.{ℕ, zero, suc, _/_, _<_}
 use mathlib.Core.Path.{_≡_, refl, sym, _∙_}
 use mathlib.Core.Logic.{_≢_, _⊎_, inl, inr, ⊎-elim, _↔_, by-cases}
 use mathlib.Core.List.{List}
@@ -9,17 +9,17 @@ use native.Mathlib.Omega.{arith}
 use lib.ListN.{length, getD, take}
 use Rattle.paper.specs.Limits.{Limits}
 use Rattle.paper.specs.Told.{refused}
-use Rattle.paper.specs.First.{First, Clear}
+use Rattle.paper.specs.First.{Clear}
 use Rattle.table.specs.Check.{TooLarge, BadSort, OutOfRange, HasRow}
 use Rattle.rule_line.specs.declared.Line.{Line}
 use Rattle.rule_line.specs.declared.Line.the-variants.{Head, State, Rule, Faulty}
-use Rattle.rule_read.specs.Text.{saidBy, marksOf, rulesOf, symbolsOf, statesOf, OutOfOrder, TooEarly, TooMany, headFault, lineFault, faultAt, textTold}
-use Rattle.rule_read.specs.Text.{HeadWrong, LineWrong, WrongAt, TextRefused, wrongLine, endsTooSoon}
+use Rattle.rule_read.specs.Text.{saidBy, marksOf, rulesOf, symbolsOf, statesOf, OutOfOrder, TooEarly, TooMany, faultAt, textTold, noRoom?, readTold}
+use Rattle.rule_read.specs.Text.{HeadWrong, LineWrong, WrongAt, TextRefused, wrongLine, endsTooSoon, ReadRefused, shortSlice, badText}
 use Rattle.rule_read.specs.Text.{headShape, stateFirst, ruleFirst, headSize}
 use Rattle.rule_read.specs.Text.{lineShape, secondHead, stateOrder, stateSort, ruleEarly, ruleMany, ruleRange, ruleAgain}
 use Rattle.rule_read.proofs.Verdict.{HeadVerdict, head-fault, head-verdict, Verdict, line-fault, line-verdict}
 use Rattle.rule_read.proofs.Verdict as found
-use Rattle.rule_read.proofs.Exact.{FirstFound, atLine, tooSoon, text-found-exactly}
+use Rattle.rule_read.proofs.Exact.{FirstFound, atLine, tooSoon, text-found-exactly, read-short, read-on}
 
 -- f is the lowest number of which W holds, or 0 where there is none
 record Lowest (W : ℕ → Type 0) (f : ℕ) : Type 0 where
@@ -169,3 +169,24 @@ module _ (L : Limits) (s : List ℕ) where
 
   pub text-refused-exactly : (n d p : ℕ) → (textTold L s ≡ refused n d p) ↔ TextRefused L s n d p
   text-refused-exactly n d p = let e = text-found-exactly L s n d p in (λ h. of-found (e .0 h), λ h. e .1 (to-found h))
+
+-- the reader tells exactly the refusals of `ReadRefused`
+module _ (L : Limits) (s M W : List ℕ) where
+  same : {n d p n′ d′ p′ : ℕ} → refused n d p ≡ refused n′ d′ p′ → ReadRefused L s M W n d p → ReadRefused L s M W n′ d′ p′
+  same {n} {d} {p} {n′} {d′} {p′} e w =
+      let a : n ≡ n′ = cc in
+      let b : d ≡ d′ = cc in
+      let c : p ≡ p′ = cc in
+      rw (a, b, c) at w
+
+  from : {n d p : ℕ} → ReadRefused L s M W n d p → readTold L s M W ≡ refused n d p
+  from (shortSlice h) = read-short L s M W h
+  from (badText {n} {d} {p} h t) = read-on L s M W h ∙ text-refused-exactly L s n d p .1 t
+
+  pub read-refused-exactly : (n d p : ℕ) → (readTold L s M W ≡ refused n d p) ↔ ReadRefused L s M W n d p
+  read-refused-exactly n d p = (
+    λ e. by-cases (noRoom? L M W)
+        (λ h. same (sym (read-short L s M W h) ∙ e) (shortSlice h))
+        (λ h. badText h (text-refused-exactly L s n d p .0 (sym (read-on L s M W h) ∙ e))),
+    from,
+  )

@@ -170,6 +170,12 @@ noRoom? L M W = dec-or (decLt _ _) (decLt _ _)
 unfoldable pub readTold : Limits → List ℕ → List ℕ → List ℕ → Told
 readTold L s M W = ite (noRoom? L M W) (refused 1 0 0) (textTold L s)
 
+-- the refusals of the reader that is lent M and W, as "given exactly if": 1 goes first, of the whole; then the
+-- text's own (`read-refused-exactly` of proofs/Wrong)
+pub data ReadRefused (L : Limits) (s M W : List ℕ) : ℕ → ℕ → ℕ → Type 0 where
+  shortSlice : NoRoom L M W → ReadRefused L s M W 1 0 0
+  badText : {n d p : ℕ} → ¬ NoRoom L M W → TextRefused L s n d p → ReadRefused L s M W n d p
+
 -- what the reader's answer tells
 abbrev pub told : Reading → Told
 told (Read y n r) = holds y n r

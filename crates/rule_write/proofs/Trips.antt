@@ -1,8 +1,8 @@
 -- The round trips, from contract to contract: whatever the reader and the writer leave in the slices that they are lent, a text that is
 -- read and then written comes back byte for byte, and a table that is written and then read comes back equal. Assumes nothing.
-use Prim.Native.Nat.{ℕ, _+_, _*_, _/_, _%_, _≤_, _<_}
+use Prim.Native.Nat.{ℕ, _+_, _*_, _/_, _%_, _≤_}
 use mathlib.Core.Path.{_≡_, refl, sym, ap, _∙_}
-use mathlib.Core.Logic.{_⊎_, ⊎-elim, if-pos, if-neg, by-cases}
+use mathlib.Core.Logic.{if-pos, if-neg, by-cases}
 use mathlib.Core.Bool.{false}
 use mathlib.Core.List.{List, _++_}
 use native.Mathlib.Decide.{ℕ-discrete, decLt}

@@ -1,10 +1,9 @@
 -- The writer's answer and what it leaves in the slice are the only ones that its contract allows. Assumes nothing.
 use Prim.Native.Nat.{ℕ}
-use mathlib.Core.Path.{_≡_, refl, sym, ap, _∙_}
+use mathlib.Core.Path.{_≡_, sym, ap, _∙_}
 use mathlib.Core.List.{List}
 use native.Mathlib.Omega.{arith}
 use Rattle.paper.specs.Limits.{Limits}
-use Rattle.paper.specs.Told.{refusal, written}
 use Rattle.paper.proofs.ToldLaws.{refusal-unique}
 use Rattle.rule_write.specs.Write.{told, Writes}
 use Rattle.rule_write.specs.declared.Writing.{Writing}

@@ -1,23 +1,23 @@
 -- Lines laid one behind the other, and what the writer's answers tell. Assumes nothing.
 use Prim.Native.Nat.{ℕ, _+_, _/_, _≤_, _<_}
 use mathlib.Core.Path.{_≡_, refl, sym, ap, _∙_}
-use mathlib.Core.Logic.{inl, inr, by-cases, ite, if-pos, if-neg}
+use mathlib.Core.Logic.{inl, inr, by-cases, if-pos, if-neg}
 use mathlib.Core.List.{List, [], _++_}
 use native.Mathlib.Decide.{decLt}
 use native.Mathlib.Numerals.{add-one}
 use native.Mathlib.Nat.{zero-add}
 use native.Mathlib.Omega.{arith}
-use lib.ListN.{length, drop, length-append}
-use lib.Seq.{sets, sets-eq}
+use lib.ListN.{length}
+use lib.Seq.{sets-eq}
 use Rattle.paper.specs.Limits.{Limits}
-use Rattle.paper.specs.Told.{Told, refused, passes, written, refusal, isRefusal, after, filled}
-use Rattle.put.specs.Put.{Put, Fit, Wrote}
-use Rattle.put.proofs.PutLaws.{put-none, put-length, fit-then, wrote-length}
+use Rattle.paper.specs.Told.{refused, passes, written, isRefusal, after, filled}
+use Rattle.put.specs.Put.{Fit, Wrote}
+use Rattle.put.proofs.PutLaws.{put-none, fit-then, wrote-length}
 use Rattle.table.specs.Check.{tableChecked}
 use Rattle.table.proofs.Exact.{passes-exactly}
 use Rattle.rule_line.specs.Line.{lineText}
 use Rattle.rule_line.specs.declared.Line.the-variants.{Head}
-use Rattle.rule_write.specs.Write.{stateLine, ruleLine, statesText, rulesText, tableText, writeTold, told, Writes}
+use Rattle.rule_write.specs.Write.{stateLine, ruleLine, statesText, rulesText, tableText, writeTold, Writes}
 use Rattle.rule_write.specs.declared.Writing.the-variants.{Wrote as WroteBytes, Refused}
 
 -- bs stand from at on, up to e, if they fit; the slice keeps its length

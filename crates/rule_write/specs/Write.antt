@@ -8,7 +8,7 @@ use lib.ListN.{length}
 use Rattle.paper.specs.Limits.{Limits, at}
 use Rattle.paper.specs.Told.{Told, refused, written, refusal, after, filled}
 use Rattle.table.specs.Rules.{sortOf, finalOf}
-use Rattle.table.specs.Check.{tableChecked}
+use Rattle.table.specs.Check.{tableChecked, TableRefused, Sound}
 use Rattle.rule_line.specs.Line.{lineText}
 use Rattle.rule_line.specs.declared.Line.{Line}
 use Rattle.rule_line.specs.declared.Line.the-variants.{Head, State, Rule}
@@ -47,6 +47,12 @@ unfoldable pub writeTold : Limits → ℕ → List ℕ → List ℕ → List ℕ
 writeTold L symbols ms xs O =
     after (tableChecked L symbols ms xs)
     (ite (noRoom? L O) (refused 1 0 0) (written (length (tableText (L .width) symbols ms xs))))
+
+-- the refusals of the writer that is lent O, as "given exactly if": the table's own go first, then 1, of the whole
+-- (`write-refused-exactly` of proofs/Exact)
+pub data WriteRefused (L : Limits) (symbols : ℕ) (ms xs O : List ℕ) : ℕ → ℕ → ℕ → Type 0 where
+  badTable : {n s p : ℕ} → TableRefused L symbols ms xs n s p → WriteRefused L symbols ms xs O n s p
+  shortSlice : Sound L symbols ms xs → NoRoom L O → WriteRefused L symbols ms xs O 1 0 0
 
 -- what the writer's answer tells
 abbrev pub told : Writing → Told

@@ -1,6 +1,6 @@
 -- The check of a table tells exactly the refusals of `TableRefused`, and passes exactly the tables without a fault. Assumes nothing.
 use Prim.Native.Nat.{ℕ, _+_, _/_, _<_}
-use mathlib.Core.Path.{_≡_, refl, sym, ap, _∙_}
+use mathlib.Core.Path.{_≡_, refl, sym, _∙_}
 use mathlib.Core.Logic.{_≢_, ⊎-elim, _↔_, if-pos, if-neg, by-cases}
 use mathlib.Core.List.{List}
 use native.Mathlib.Omega.{arith}

@@ -1,7 +1,7 @@
 -- The check of a tree tells exactly the refusals of `TreeRefused`, and passes exactly the trees without a fault. Assumes nothing.
 use Prim.Native.Nat.{ℕ, _+_, _*_, _/_, _%_, _≤_, _<_}
-use mathlib.Core.Path.{_≡_, refl, sym, ap, _∙_}
-use mathlib.Core.Logic.{_≢_, _⊎_, inl, inr, ⊎-elim, _↔_, ite, if-pos, if-neg, by-cases}
+use mathlib.Core.Path.{_≡_, sym, _∙_}
+use mathlib.Core.Logic.{_≢_, _⊎_, inl, inr, ⊎-elim, _↔_, if-pos, if-neg, by-cases}
 use mathlib.Core.List.{List}
 use mathlib.Core.Bool.{true, false}
 use lib.Dec.{leb}
@@ -10,7 +10,7 @@ use native.Mathlib.Omega.{arith}
 use lib.ListN.{length}
 use Rattle.paper.specs.Limits.{Limits, at}
 use Rattle.paper.specs.Told.{refused, passes, Tells}
-use Rattle.paper.specs.First.{First, Clear, first}
+use Rattle.paper.specs.First.{Clear, first}
 use Rattle.paper.proofs.ToldLaws.{refused-not-passes}
 use Rattle.paper.proofs.FirstLaws.{first-clear, first-fault, first-or-clear}
 use Rattle.tree.specs.Tree.{leafMark}

@@ -1,14 +1,14 @@
 -- The tree of a node: a leaf, or the join of its children's trees. Assumes nothing.
-use Prim.Native.Nat.{ℕ, zero, suc, _+_, _*_, _≤_, _<_}
-use mathlib.Core.Path.{_≡_, refl, sym, ap, ap₂, _∙_}
-use mathlib.Core.Logic.{_≢_, ite, if-pos, if-neg, by-cases}
-use mathlib.Core.List.{List, [], _∷_, _++_}
+use Prim.Native.Nat.{ℕ, zero, suc, _+_, _*_, _<_}
+use mathlib.Core.Path.{_≡_, refl, ap₂, _∙_}
+use mathlib.Core.Logic.{_≢_, if-pos, if-neg, by-cases}
+use mathlib.Core.List.{List, [], _∷_}
 use native.Mathlib.Decide.{ℕ-discrete}
 use native.Mathlib.Omega.{arith}
 use lib.ListN.{length, getD, length-append, List·getD-append}
 use lib.Seq.{getD-at}
 use Rattle.paper.specs.Limits.{at}
-use Rattle.tree.specs.Tree.{Tree, leaf, join, leafMark, nodeTree, trees, treeAt}
+use Rattle.tree.specs.Tree.{leaf, join, leafMark, nodeTree, trees, treeAt}
 
 length-trees : (xs : List ℕ) (n : ℕ) → length (trees xs n) ≡ n
 unfolding trees

@@ -1,7 +1,6 @@
-use mathlib.Core.Path.{sym, ap, _∙_}
 use borrow.Author.Needs.{needs}
 use Rattle.rule_line.specs.Line.{lineText}
-use Rattle.rule_line.proofs.LineLaws.{wrote-as, wrote-nothing}
+use Rattle.rule_line.proofs.LineLaws.{wrote-nothing}
 use Rattle.rule_line.proofs.write_line.Statement.{statement}
 use Rattle.rule_line.proofs.write_line.Tie as tie
 

@@ -1,6 +1,5 @@
-use mathlib.Core.Path.{sym, refl}
+use mathlib.Core.Path.{sym}
 use denote.Ref.{now}
-use native.Mathlib.Omega.{arith}
 use Rattle.paper.specs.Limits.{limits}
 use Rattle.rule_read.proofs.Verdict.{rule-early}
 use Rattle.rule_read.proofs.Rows.{front-many, front-range, front-again, front-none}

@@ -1,5 +1,4 @@
 use native.Mathlib.Omega.{arith}
-use denote.Ref.{now}
 use Rattle.paper.specs.Limits.{limits}
 use Rattle.rule_read.proofs.Said.{wide-limits}
 use Rattle.rule_read.proofs.Storing.{fits-state, fits-rule, stored-head, stored-faulty, stored-state, stored-rule}

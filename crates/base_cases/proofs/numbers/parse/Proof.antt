@@ -1,7 +1,6 @@
 use mathlib.Core.Path.{_≡_}
 use Prim.Native.Nat.{_-_}
 use lib.ListN.{length}
-use native.Mathlib.Omega.{arith}
 use borrow.Author.Needs.{needs}
 use Rattle.base_cases.proofs.numbers.parse.Statement.{statement}
 use Rattle.base_cases.proofs.numbers.parse.Tie as tie

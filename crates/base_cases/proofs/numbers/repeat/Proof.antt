@@ -1,6 +1,5 @@
 use mathlib.Core.Path.{_≡_}
 use lib.ListN.{length}
-use native.Mathlib.Omega.{arith}
 use borrow.Author.Needs.{needs}
 use Rattle.base_cases.proofs.numbers.repeat.Statement.{statement}
 use Rattle.base_cases.proofs.numbers.repeat.Tie as tie

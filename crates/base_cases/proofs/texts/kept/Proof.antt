@@ -1,6 +1,5 @@
 use Prim.Native.Nat.{_≤_, _-_}
 use lib.ListN.{length}
-use native.Mathlib.Omega.{arith}
 use borrow.Author.Needs.{needs}
 use Rattle.base_cases.proofs.texts.kept.Statement.{statement}
 use Rattle.base_cases.proofs.texts.kept.Tie as tie
