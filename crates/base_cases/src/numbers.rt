@@ -1,4 +1,4 @@
-// Numbers of a case: decimal, parted by any other bytes; `n*v` stands for n times v.
+// Numbers of a case: decimal, parted by any other bytes.
 ghost use mathlib.Core.Path.{_≡_};
 ghost use Prim.Native.Nat.{_≤_, _<_};
 ghost use lib.ListN.{length};
@@ -21,45 +21,6 @@ fn push(out: &mut [u16], count: usize, v: u16) -> usize
     count
 }
 
-// Puts v `times` times, and answers how many numbers there are then.
-fn repeat(out: &mut [u16], count: usize, times: u16, v: u16) -> usize
-    ensures { λ r. ⌜ length (now (out .exit)) ≡ length (now (out .entry)) ⌝ }
-{
-    let mut n = count;
-    let mut left = times;
-    while 0 < left {
-        n = push(out, n, v);
-        left -= 1;
-    }
-    n
-}
-
-// Puts the number a, or a times the number behind a star, and answers how many numbers there are then.
-fn item(bytes: &[u8], end: usize, a: u16, out: &mut [u16], count: usize) -> usize
-    ensures { λ r. ⌜ length (now (out .exit)) ≡ length (now (out .entry)) ⌝ }
-{
-    if end < bytes.len() {
-        if bytes[end] == b'*' {
-            let second = lines::read_number(bytes, end + 1);
-            if let Number::Value(v, _) = second {
-                return repeat(out, count, a, v);
-            }
-        }
-    }
-    repeat(out, count, 1, a)
-}
-
-// Is a number that begins here the second of `n*v`?
-fn behind_star(bytes: &[u8], at: usize) -> bool {
-    if at == 0 {
-        return false;
-    }
-    if at <= bytes.len() {
-        return bytes[at - 1] == b'*';
-    }
-    false
-}
-
 // Goes on by one number, or by one byte that is none.
 fn step(bytes: &[u8], at: usize, out: &mut [u16], count: usize) -> Reached
     requires { ⌜ at < length (now bytes) ⌝ }
@@ -72,10 +33,7 @@ fn step(bytes: &[u8], at: usize, out: &mut [u16], count: usize) -> Reached
     if end <= at {
         return Reached { at: at + 1, count };
     }
-    if behind_star(bytes, at) {
-        return Reached { at: end, count };
-    }
-    let more = item(bytes, end, a, out, count);
+    let more = push(out, count, a);
     Reached {
         at: end,
         count: more,
