@@ -69,7 +69,7 @@ pub fn read_number(s: &[u8], at: usize) -> Number
 }
 
 // A tab at `at` and the number behind it.
-fn read_field(x: &[u8], at: usize) -> Number
+pub fn read_field(x: &[u8], at: usize) -> Number
     ensures { λ r. ⌜ r ≡ field (now (x .entry)) at ⌝ }
 {
     if x.len() <= at {

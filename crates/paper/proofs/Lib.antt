@@ -1,3 +1,4 @@
 pub mod FirstLaws
 pub mod ToldLaws
 pub mod TellsLaws
+pub mod VerdictLaws

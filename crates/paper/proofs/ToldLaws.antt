@@ -37,3 +37,16 @@ told-unique (Refused r) (Refused s) e = ap Refused (refusal-unique r s e)
 
 pub check-unique : (t : Told) (a b : Checked) → checkTold a ≡ t → checkTold b ≡ t → a ≡ b
 check-unique t a b x y = told-unique a b (x ∙ sym y)
+
+-- a refusal's three numbers are known from what it tells
+same-number : {n d p n′ d′ p′ : ℕ} → refused n d p ≡ refused n′ d′ p′ → n ≡ n′
+same-number e = cc
+
+same-side : {n d p n′ d′ p′ : ℕ} → refused n d p ≡ refused n′ d′ p′ → d ≡ d′
+same-side e = cc
+
+same-place : {n d p n′ d′ p′ : ℕ} → refused n d p ≡ refused n′ d′ p′ → p ≡ p′
+same-place e = cc
+
+pub refused-as : (R : ℕ → ℕ → ℕ → Type 0) {n d p n′ d′ p′ : ℕ} → refused n d p ≡ refused n′ d′ p′ → R n d p → R n′ d′ p′
+refused-as R e r = rw (sym (same-number e), sym (same-side e), sym (same-place e)) r

@@ -19,6 +19,8 @@ pub data Told : Type 0 where
   rejected : Told
   -- a table stands at the front of the lent slices
   holds : (symbols states rules : ℕ) → Told
+  -- a model text is well-formed: its symbols, its start and the states of its table
+  sizes : (symbols start states : ℕ) → Told
   -- so many bytes stand at the front of the lent slice
   written : (bytes : ℕ) → Told
 
@@ -38,6 +40,7 @@ isRefusal passes = false
 isRefusal accepted = false
 isRefusal rejected = false
 isRefusal (holds y n r) = false
+isRefusal (sizes y s n) = false
 isRefusal (written n) = false
 
 unfoldable pub placeOf : Told → ℕ
@@ -46,6 +49,7 @@ placeOf passes = 0
 placeOf accepted = 0
 placeOf rejected = 0
 placeOf (holds y n r) = 0
+placeOf (sizes y s n) = 0
 placeOf (written n) = 0
 
 -- the refusal of a check, or what follows a check that passes

@@ -28,6 +28,9 @@ pub const LEAF: u16 = 65535;
 // So many bytes has a slice for a rule text.
 pub const TEXT: usize = 8192;
 
+// At most so many tokens has a model.
+pub const TOKENS: usize = 200;
+
 // The numbers of the refusals.
 pub const ROOM: u16 = 1;
 
@@ -42,6 +45,14 @@ pub const RANGE: u16 = 5;
 pub const REPEAT: u16 = 6;
 
 pub const TREE: u16 = 12;
+
+pub const MODEL_TEXT: u16 = 13;
+
+pub const AMBIGUOUS: u16 = 14;
+
+pub const MODEL_STATES: u16 = 15;
+
+pub const MODEL_RULES: u16 = 16;
 
 // What a refusal tells: its number, whose it is (1 sender, 2 receiver, 0 neither), and its place (0 for the whole).
 pub struct Refusal {

@@ -10,7 +10,8 @@ use Rattle.paper.specs.Told.{refused, holds}
 use Rattle.paper.specs.First.{First, Clear}
 use Rattle.paper.proofs.FirstLaws.{first-clear, first-fault, first-or-clear}
 use Rattle.rule_read.specs.Text.{saidBy, marksOf, rulesOf, symbolsOf, faultAt, TooSoon, textTold}
-use Rattle.rule_read.specs.Text.{tooSoon?, NoRoom, noRoom?, readTold}
+use Rattle.rule_read.specs.Text.{tooSoon?, readTold}
+use Rattle.table.specs.Room.{NoRoom, noRoom?}
 use Rattle.rule_read.proofs.Verdict.{fault-numbered}
 
 pub refused-not-holds : {n d p y m r : ℕ} → refused n d p ≡ holds y m r → ⊥

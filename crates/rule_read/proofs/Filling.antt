@@ -9,7 +9,8 @@ use lib.Seq.{length-take-le}
 use Rattle.paper.specs.Limits.{Limits}
 use Rattle.paper.specs.Told.{Told, refused, holds, refusal, isRefusal, filled}
 use Rattle.paper.specs.declared.Refusal.{Refusal}
-use Rattle.rule_read.specs.Text.{saidBy, marksOf, rulesOf, NoRoom, readTold, told, Reads}
+use Rattle.rule_read.specs.Text.{saidBy, marksOf, rulesOf, readTold, told, Reads}
+use Rattle.table.specs.Room.{NoRoom}
 use Rattle.rule_read.specs.Work.{Answers}
 use Rattle.rule_read.specs.declared.Reading.{Reading}
 use Rattle.rule_read.specs.declared.Reading.the-variants.{Read, Refused}

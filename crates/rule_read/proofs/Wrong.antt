@@ -13,7 +13,8 @@ use Rattle.paper.specs.First.{Clear}
 use Rattle.table.specs.Check.{TooLarge, BadSort, OutOfRange, HasRow}
 use Rattle.rule_line.specs.declared.Line.{Line}
 use Rattle.rule_line.specs.declared.Line.the-variants.{Head, State, Rule, Faulty}
-use Rattle.rule_read.specs.Text.{saidBy, marksOf, rulesOf, symbolsOf, statesOf, OutOfOrder, TooEarly, TooMany, faultAt, textTold, noRoom?, readTold}
+use Rattle.rule_read.specs.Text.{saidBy, marksOf, rulesOf, symbolsOf, statesOf, OutOfOrder, TooEarly, TooMany, faultAt, textTold, readTold}
+use Rattle.table.specs.Room.{noRoom?}
 use Rattle.rule_read.specs.Text.{HeadWrong, LineWrong, WrongAt, TextRefused, wrongLine, endsTooSoon, ReadRefused, shortSlice, badText}
 use Rattle.rule_read.specs.Text.{headShape, stateFirst, ruleFirst, headSize}
 use Rattle.rule_read.specs.Text.{lineShape, secondHead, stateOrder, stateSort, ruleEarly, ruleMany, ruleRange, ruleAgain}

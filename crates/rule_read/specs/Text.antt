@@ -10,6 +10,7 @@ use Rattle.paper.specs.Told.{Told, refused, holds, refusal, filled}
 use Rattle.paper.specs.First.{first}
 use Rattle.paper.specs.Tests.{dec-or}
 use Rattle.table.specs.Rules.{markFor}
+use Rattle.table.specs.Room.{NoRoom, noRoom?}
 use Rattle.table.specs.Check.{TooLarge, BadSort, OutOfRange, HasRow, tooLarge?, badSort?, outOfRange?, hasRow?}
 use Rattle.lines.specs.Lines.{lines}
 use Rattle.rule_line.specs.Line.{line}
@@ -158,13 +159,6 @@ pub data TextRefused (L : Limits) (s : List ℕ) : ℕ → ℕ → ℕ → Type 
       → ((j m : ℕ) → j < k → ¬ WrongAt L (saidBy s) j m) → TextRefused L s n 0 (k + 1)
   endsTooSoon : ((j m : ℕ) → j < length (saidBy s) → ¬ WrongAt L (saidBy s) j m) → TooSoon (saidBy s)
       → TextRefused L s 3 0 (length (saidBy s) + 1)
-
--- 1: the slice for the marks or that for the rules is too short
-abbrev pub NoRoom : Limits → List ℕ → List ℕ → Type 0
-NoRoom L M W = (length M < L .states) ⊎ (length W < L .rules * L .width)
-
-unfoldable pub noRoom? : (L : Limits) (M W : List ℕ) → Dec (NoRoom L M W)
-noRoom? L M W = dec-or (decLt _ _) (decLt _ _)
 
 -- what the reader tells that is lent M for the marks and W for the rules: 1 goes first
 unfoldable pub readTold : Limits → List ℕ → List ℕ → List ℕ → Told

@@ -2,10 +2,9 @@
 // the refusal with its line, which leaves the slices as they were.
 // specs/Text has what a text tells, specs/Work what the reader keeps while it reads.
 ghost use mathlib.Core.Path.{_≡_};
-ghost use mathlib.Core.List.{[], _∷_, _++_};
-ghost use Prim.Native.Nat.{_+_, _*_, _≤_};
+ghost use mathlib.Core.List.{_++_};
+ghost use Prim.Native.Nat.{_*_, _≤_};
 ghost use lib.ListN.{length, take, drop};
-ghost use lib.Seq.{sets};
 ghost use Rattle.paper.specs.Limits.{limits};
 ghost use Rattle.rule_read.specs.Text.{stateLineFault, ruleLineFault, lineFault, Reads};
 ghost use Rattle.rule_read.specs.Work.{Room, Fits, Stored, Headed, Answers};
@@ -101,17 +100,6 @@ fn line_fault(head: Sizes, done: Counts, rules: &[u16], l: Line) -> u16
     }
 }
 
-// Puts the numbers of a rule into a slice from i on.
-fn put_rule(rules: &mut [u16], i: usize, kind: u16, left: u16, right: u16, to: u16)
-    requires { ⌜ i + length (kind ∷ left ∷ right ∷ to ∷ []) ≤ length (now rules) ⌝ }
-    ensures { λ _. ⌜ now (rules .exit) ≡ sets (now (rules .entry)) i (kind ∷ left ∷ right ∷ to ∷ []) ⌝ }
-{
-    rules[i] = kind;
-    rules[i + 1] = left;
-    rules[i + 2] = right;
-    rules[i + 3] = to;
-}
-
 // Stores what a line adds behind the marks and the rules so far, and answers how many there are then.
 fn store(marks: &mut [u16], rules: &mut [u16], done: Counts, l: Line) -> Counts
     requires { ⌜ Fits (limits .width) (now marks) (now rules) (done .marks) (done .rules) l ⌝ }
@@ -133,7 +121,7 @@ fn store(marks: &mut [u16], rules: &mut [u16], done: Counts, l: Line) -> Counts
         }
         Line::Rule(k, a, b, q) => {
             let row = r * paper::WIDTH;
-            put_rule(rules, row, k, a, b, q);
+            rows::put_rule(rules, row, k, a, b, q);
             let more = r + 1;
             Counts {
                 marks: m,

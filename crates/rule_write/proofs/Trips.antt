@@ -16,7 +16,8 @@ use Rattle.lines.specs.Number.{mostNumber}
 use Rattle.table.specs.Check.{tableChecked}
 use Rattle.table.proofs.Exact.{passes-exactly, refused-exactly, verdict}
 use Rattle.table.proofs.Exact as table
-use Rattle.rule_read.specs.Text.{saidBy, marksOf, rulesOf, NoRoom, noRoom?, textTold, readTold, Reads}
+use Rattle.rule_read.specs.Text.{saidBy, marksOf, rulesOf, textTold, readTold, Reads}
+use Rattle.table.specs.Room.{NoRoom, noRoom?}
 use Rattle.rule_read.specs.declared.Reading.{Reading}
 use Rattle.rule_read.specs.declared.Reading.the-variants.{Read}
 use Rattle.rule_read.proofs.Said.{Wide}

@@ -1,3 +1,4 @@
 pub mod Rules
 pub mod RowTest
 pub mod Check
+pub mod Room

@@ -42,7 +42,13 @@ pub data Has (R : Rule → Type 0) : Tree → ℕ → Type 0 where
   atJoin : {s t : Tree} {l r q : ℕ} → Has R s l → Has R t r → R (joinRule l r q) → Has R (join s t) q
   atEps : {t : Tree} {p q : ℕ} → Has R t p → R (epsRule p q) → Has R t q
 
--- the greatest sort and the greatest value of final
+-- the sorts: 1 may stand left of a join, 2 right, 3 both; the greatest sort, and the greatest value of final
+abbrev pub leftSort : ℕ
+leftSort = 1
+
+abbrev pub rightSort : ℕ
+rightSort = 2
+
 abbrev pub mostSort : ℕ
 mostSort = 3
 

@@ -34,7 +34,7 @@ mul-row : tie.Need-mul-row
 mul-row c = search needs
 
 put-rule-requires : tie.Need-put-rule-requires
-put-rule-requires c κs = fits-rule (c .before .before .before .before .before .before .pre) (c .before .before .l2 .given .1)
+put-rule-requires c κs = tt
 
 add-more-2 : tie.Need-add-more-2
 add-more-2 c = search needs
@@ -55,7 +55,7 @@ same-length-2 : tie.Need-same-length-2
 same-length-2 c = search needs
 
 returns-3 : tie.Need-returns-3
-returns-3 c = stored-rule (limits .width) _ _ _ _ wide-limits (c .before .before .before .before .before .l2 .given .1) (fits-rule (c .before .before .before .before .before .before .before .before .before .pre) (c .before .before .before .before .before .l2 .given .1)) (c .before .before .put-rule .ensures)
+returns-3 c = stored-rule (limits .width) _ _ _ _ wide-limits (c .before .before .before .before .before .l2 .given .1) (fits-rule (c .before .before .before .before .before .before .before .before .before .pre) (c .before .before .before .before .before .l2 .given .1)) (c .before .before .put-rule .ensures .fits (fits-rule (c .before .before .before .before .before .before .before .before .before .pre) (c .before .before .before .before .before .l2 .given .1)) .holds)
 
 returns-4 : tie.Need-returns-4
 returns-4 c = stored-faulty (limits .width) _ _ _ _ (c .enum-told2 .given .1)

@@ -1,0 +1,12 @@
+pub mod Member
+pub mod Lines
+pub mod Numbers
+pub mod Rows
+pub mod Parts
+pub mod RuleExact
+pub mod Marks
+pub mod Accept
+pub mod Counts
+pub mod Lone
+pub mod Passes
+pub mod Received

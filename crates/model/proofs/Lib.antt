@@ -1,0 +1,10 @@
+pub mod Families
+pub mod Local
+pub mod Places
+pub mod Image
+pub mod Next
+pub mod Tests
+pub mod Positions
+pub mod Binary
+pub mod Read
+pub mod Decided

@@ -1,0 +1,4 @@
+pub mod Model
+pub mod Documents
+pub mod Postfix
+pub mod Sets

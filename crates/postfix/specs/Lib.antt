@@ -1,0 +1,3 @@
+pub mod Token
+pub mod Steps
+pub mod Field

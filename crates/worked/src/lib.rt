@@ -1,0 +1,1 @@
+// The worked examples that are proved of the definitions, by one statement over a single list. No function stands here.
