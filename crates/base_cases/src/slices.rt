@@ -1,19 +1,6 @@
 // A table and a tree in numbers: the symbols, how many marks, the marks, how many rule numbers, these, and the nodes.
 use crate::numbers;
-use crate::say;
 use accept::Answer;
-
-// The part of a slice from a on, at most n long, as far as the slice goes.
-fn part<'a>(all: &'a [u16], a: usize, n: usize) -> &'a [u16] {
-    let len = all.len();
-    if len < a {
-        return &all[len..len];
-    }
-    if n <= len - a {
-        return &all[a..a + n];
-    }
-    &all[a..len]
-}
 
 // Number a of the slice, or 0.
 fn at(all: &[u16], a: usize) -> u16 {
@@ -39,9 +26,9 @@ fn judge_numbers(all: &[u16]) {
     let r = at(all, 2 + m) as usize;
     tell(
         at(all, 0),
-        part(all, 2, m),
-        part(all, 3 + m, r),
-        part(all, 3 + m + r, all.len()),
+        say::part(all, 2, m),
+        say::part(all, 3 + m, r),
+        say::part(all, 3 + m + r, all.len()),
     );
 }
 
@@ -51,5 +38,5 @@ pub(crate) fn judge(n: usize) {
     let mut all = [0u16; 16384];
     let length = say::load(b's', n, &mut bytes);
     let count = numbers::parse(&bytes[..length], &mut all);
-    judge_numbers(part(&all, 0, count));
+    judge_numbers(say::part(&all, 0, count));
 }

@@ -1,32 +1,11 @@
 // Rule texts: read into slices, written back, and the faulty line of two.
-use crate::say;
-use paper::Refusal;
 use rule_read::Reading;
 use rule_write::Writing;
 
-// Is each number of the slice still 9?
-fn kept(numbers: &[u16]) -> bool {
-    let mut i = 0;
-    while i < numbers.len() {
-        if numbers[i] != 9 {
-            return false;
-        }
-        i += 1;
-    }
-    true
-}
+// The cases whose slices are too short.
+const SHORT_MARKS: usize = 49;
 
-// A refusal, which must leave the slices of 9s as they were.
-fn refused(f: Refusal, marks: &[u16], rules: &[u16]) {
-    say::refusal(f);
-    if kept(marks) {
-        if kept(rules) {
-            say::text(b"\n");
-            return;
-        }
-    }
-    say::text(b"\tslices changed\n");
-}
+const SHORT_RULES: usize = 50;
 
 // The counts of a table, and how many bytes its text has, which must be the text that was read.
 fn write_back(text: &[u8], symbols: u16, marks: &[u16], rules: &[u16]) {
@@ -48,7 +27,7 @@ fn write_back(text: &[u8], symbols: u16, marks: &[u16], rules: &[u16]) {
 // Reads a text into slices of 9s.
 fn read_into(text: &[u8], marks: &mut [u16], rules: &mut [u16]) {
     match rule_read::read_text(text, marks, rules) {
-        Reading::Refused(f) => refused(f, marks, rules),
+        Reading::Refused(f) => say::refused(f, marks, rules),
         Reading::Read(symbols, states, count) => {
             say::text(b"\ttable");
             say::field(symbols as usize);
@@ -68,27 +47,15 @@ fn read_into(text: &[u8], marks: &mut [u16], rules: &mut [u16]) {
     }
 }
 
-// Case n.
+// Case n; one has a slice for marks that is too short, one a slice for rules.
 pub(crate) fn read(n: usize) {
     let mut bytes = [0u8; 16384];
     let mut marks = [9u16; paper::STATES];
     let mut rules = [9u16; paper::RULE_NUMBERS];
     let length = say::load(b't', n, &mut bytes);
-    read_into(&bytes[..length], &mut marks, &mut rules);
-}
-
-// A slice for marks that is too short.
-pub(crate) fn short_marks() {
-    let mut marks = [9u16; paper::STATES - 1];
-    let mut rules = [9u16; paper::RULE_NUMBERS];
-    read_into(b"", &mut marks, &mut rules);
-}
-
-// A slice for rules that is too short.
-pub(crate) fn short_rules() {
-    let mut marks = [9u16; paper::STATES];
-    let mut rules = [9u16; paper::RULE_NUMBERS - 1];
-    read_into(b"", &mut marks, &mut rules);
+    let m = say::less(paper::STATES, n, SHORT_MARKS);
+    let r = say::less(paper::RULE_NUMBERS, n, SHORT_RULES);
+    read_into(&bytes[..length], &mut marks[..m], &mut rules[..r]);
 }
 
 // A slice for a text that is too short.

@@ -12,8 +12,10 @@ use Rattle.model.specs.Model.{Model, bears}
 use Rattle.model.specs.Documents.{Doc, node, Docs, nil, cons, top, tops, binary, joined, Derives, derive, Each, each-nil, each-cons}
 use Rattle.model.proofs.Positions.{Comes, comes-to, comes-next, next-comes, ends-may, may-ends}
 use Rattle.model.proofs.Read.{Reads, at-end, next, reads-exactly}
-use Rattle.model.proofs.Binary.{add, doc, doc-binary, binary-doc, derives-top, derives-own, each-snoc, tops-snoc}
-use Rattle.compiled.specs.States.{Line, element, inside, modelOf, marks}
+use Rattle.model.proofs.Binary.{doc-binary, binary-doc, derives-top, derives-own, each-snoc, tops-snoc}
+use Rattle.model.specs.Documents.{add, doc}
+use Rattle.compiled.specs.States.{element, inside, marks}
+use Rattle.model.specs.Documents.{Line, modelOf}
 use Rattle.compiled.specs.Rules.{rules, numbers}
 use Rattle.compiled.specs.Valid.{GoodLines, Valid}
 use Rattle.compiled.specs.Meaning.{Numbered, RuleOf, leafOf, epsOf, joinOf}

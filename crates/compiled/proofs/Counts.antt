@@ -10,7 +10,8 @@ use lib.ListN.{length, length-append}
 use lib.Dec.{T, eqb, eqb→eq, eqb-refl}
 use Rattle.table.specs.Rules.{Rule, leafRule, joinRule, epsRule}
 use Rattle.model.specs.Model.{Model, bears, places}
-use Rattle.compiled.specs.States.{Line, State, element, inside, each, insides, allInsides, states, stateAt}
+use Rattle.compiled.specs.States.{State, element, inside, each, insides, allInsides, states, stateAt}
+use Rattle.model.specs.Documents.{Line}
 use Rattle.compiled.specs.States.{initialOf, owner, mayEnd, bearing, goesOn}
 use Rattle.compiled.specs.Rules.{only, leafRules, epsRules, joinRules, rules}
 use Rattle.compiled.specs.Counts.{sum, count}

@@ -8,7 +8,7 @@ use mathlib.Core.Option.{Option, none, some}
 use mathlib.Core.List.{List, [], _∷_, _++_}
 use lib.Dec.{T, eqb, eqb→eq, eqb-refl}
 use Rattle.model.specs.Model.{Model, bears, places, Ambiguous}
-use Rattle.compiled.specs.States.{Line, modelOf}
+use Rattle.model.specs.Documents.{Line, modelOf}
 use Rattle.compiled.specs.Valid.{GoodLine, GoodLines, noLine, oneMore, Unambiguous}
 
 pub none-some : {m : Model} → none ≡ some m → ⊥

@@ -12,7 +12,8 @@ use Rattle.table.specs.Rules.{Rule, leafRule, joinRule, epsRule}
 use Rattle.model.specs.Model.{Model, bears, Ambiguous}
 use Rattle.model.proofs.Tests.{and-elim}
 use Rattle.model.proofs.Positions.{Comes, test-comes, clash-at}
-use Rattle.compiled.specs.States.{Line, State, inside, each, states, stateAt, initialOf, owner, mayEnd, bearing, goesOn}
+use Rattle.compiled.specs.States.{State, inside, each, states, stateAt, initialOf, owner, mayEnd, bearing, goesOn}
+use Rattle.model.specs.Documents.{Line}
 use Rattle.compiled.specs.Rules.{only, leafRules, epsRules, joinRules, rules}
 use Rattle.compiled.specs.Valid.{GoodLines, Unambiguous}
 use Rattle.compiled.specs.Meaning.{Numbered}

@@ -3,7 +3,7 @@ use Prim.Native.Nat.{ℕ, zero, suc, _≤_, _<_}
 use native.Mathlib.Omega.{arith}
 use native.Mathlib.Decide.{decLt}
 use mathlib.Core.Path.{_≡_, refl, sym, _∙_, ap, subst}
-use mathlib.Core.Logic.{⊎-elim, by-cases}
+use mathlib.Core.Logic.{⊎-elim, by-cases, inl}
 use mathlib.Core.Bool.{Bool, true, false, cond}
 use mathlib.Core.List.{List, [], _∷_, map}
 use lib.ListN.{length, getD, List·getD-eq-default}
@@ -12,7 +12,8 @@ use Rattle.paper.specs.Limits.{at}
 use Rattle.table.specs.Rules.{Final, sortOf, finalOf, markFor, leftSort, rightSort, mostSort, mostFinal}
 use Rattle.table.specs.Check.{BadSort, BadMark}
 use Rattle.model.specs.Model.{Model}
-use Rattle.compiled.specs.States.{Line, State, element, inside, states, stateAt, markOf, marks}
+use Rattle.compiled.specs.States.{State, element, inside, states, stateAt, markOf, marks}
+use Rattle.model.specs.Documents.{Line}
 use Rattle.receiver.specs.Receiver.{MayLeft, MayRight}
 use Rattle.compiled.specs.Meaning.{Numbered}
 use Rattle.compiled.proofs.Lines.{cond-yes}
@@ -101,8 +102,8 @@ module _ (start n : ℕ) (ls : List Line) where
 
   -- elements may stand right of a join and not left, the others left and not right
   pub element-right : {q a : ℕ} → Numbered n ls q (element a) → MayRight (marks start n ls) q × ¬ MayLeft (marks start n ls) q
-  element-right h = let e = element-sort (mark-of h) in (λ k. omega arith, λ k. k e)
+  element-right h = let e = element-sort (mark-of h) in (inl e, ⊎-elim (λ k. omega arith) (λ k. omega arith))
 
   pub inside-left : {q a i : ℕ} {m : Model} → Numbered n ls q (inside a m i)
       → MayLeft (marks start n ls) q × ¬ MayRight (marks start n ls) q
-  inside-left h = let e = inside-sort (mark-of h) in (λ k. omega arith, λ k. k e)
+  inside-left h = let e = inside-sort (mark-of h) in (inl e, ⊎-elim (λ k. omega arith) (λ k. omega arith))

@@ -9,7 +9,8 @@ use mathlib.Core.List.{List, [], _∷_, _++_}
 use lib.ListN.{length, getD, length-append, List·getD-append}
 use lib.Seq.{getD-append-add}
 use Rattle.model.specs.Model.{Model, places}
-use Rattle.compiled.specs.States.{Line, State, element, inside, modelOf, each, insides, allInsides, states, stateAt}
+use Rattle.compiled.specs.States.{State, element, inside, each, insides, allInsides, states, stateAt}
+use Rattle.model.specs.Documents.{Line, modelOf}
 use Rattle.compiled.specs.Meaning.{Numbered}
 use Rattle.compiled.proofs.Lines.{none-some, model-here, model-later, model-cases, Distinct, andLine}
 

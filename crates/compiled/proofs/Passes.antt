@@ -10,7 +10,8 @@ use Rattle.paper.specs.Told.{passes}
 use Rattle.table.specs.Rules.{Rule, leafRule, joinRule, epsRule, Row}
 use Rattle.table.specs.Check.{Misshapen, OutOfRange, GoodRule, Sound, tableChecked}
 use Rattle.table.proofs.Exact.{passes-exactly}
-use Rattle.compiled.specs.States.{Line, states, marks}
+use Rattle.compiled.specs.States.{states, marks}
+use Rattle.model.specs.Documents.{Line}
 use Rattle.compiled.specs.Rules.{rules, numbersOf, numbers}
 use Rattle.compiled.specs.Valid.{GoodLines, Valid, Unambiguous}
 use Rattle.compiled.specs.Meaning.{RuleOf, leafOf, epsOf, joinOf}

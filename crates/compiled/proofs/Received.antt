@@ -8,7 +8,8 @@ use lib.ListN.{length}
 use Rattle.paper.specs.Limits.{Limits, at, joinKind, epsKind}
 use Rattle.table.specs.Rules.{Rule, leafRule, joinRule, epsRule, RulesOf, Reach, here, step}
 use Rattle.receiver.specs.Receiver.{MayLeft, MayRight, LeftSideAgain, BreaksSorts, NotSingle, Receives}
-use Rattle.compiled.specs.States.{Line, inside, marks}
+use Rattle.compiled.specs.States.{inside, marks}
+use Rattle.model.specs.Documents.{Line}
 use Rattle.compiled.specs.Rules.{rules, numbersOf, numbers}
 use Rattle.compiled.specs.Valid.{Valid, Unambiguous}
 use Rattle.compiled.specs.Meaning.{RuleOf, leafOf, epsOf, joinOf}

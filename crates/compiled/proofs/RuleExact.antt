@@ -8,7 +8,8 @@ use Rattle.paper.specs.Limits.{Limits}
 use Rattle.table.specs.Rules.{Rule, leafRule, joinRule, epsRule, RulesOf}
 use Rattle.model.specs.Model.{Model, bears, ComesNext, MayEnd}
 use Rattle.model.proofs.Positions.{test-comes, comes-to, comes-exactly, ends-exactly}
-use Rattle.compiled.specs.States.{Line, State, element, inside, states, stateAt, initialOf, owner, mayEnd, bearing, goesOn}
+use Rattle.compiled.specs.States.{State, element, inside, states, stateAt, initialOf, owner, mayEnd, bearing, goesOn}
+use Rattle.model.specs.Documents.{Line}
 use Rattle.compiled.specs.Rules.{leafRules, epsRules, joinRules, rules, numbers}
 use Rattle.compiled.specs.Valid.{GoodLines}
 use Rattle.compiled.specs.Meaning.{Numbered, RuleOf, leafOf, epsOf, joinOf}

@@ -5,7 +5,8 @@ use mathlib.Core.List.{List}
 use lib.ListN.{length}
 use Rattle.table.specs.Rules.{Rule, leafRule, joinRule, epsRule}
 use Rattle.model.specs.Model.{Model, bears, ComesNext, MayEnd}
-use Rattle.compiled.specs.States.{Line, State, element, inside, states, stateAt}
+use Rattle.compiled.specs.States.{State, element, inside, states, stateAt}
+use Rattle.model.specs.Documents.{Line}
 
 -- q is a number of the state s
 pub record Numbered (n : ℕ) (ls : List Line) (q : ℕ) (s : State) : Type 0 where

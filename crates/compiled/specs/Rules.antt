@@ -5,7 +5,8 @@ use mathlib.Core.List.{List, [], _∷_, _++_}
 use lib.ListN.{length}
 use Rattle.paper.specs.Limits.{leafKind, joinKind, epsKind}
 use Rattle.table.specs.Rules.{Rule, leafRule, joinRule, epsRule}
-use Rattle.compiled.specs.States.{Line, State, each, states, stateAt, initialOf, owner, mayEnd, bearing, goesOn}
+use Rattle.compiled.specs.States.{State, each, states, stateAt, initialOf, owner, mayEnd, bearing, goesOn}
+use Rattle.model.specs.Documents.{Line}
 
 -- a rule, if a test holds
 unfoldable pub only : Bool → Rule → List Rule

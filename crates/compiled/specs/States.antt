@@ -1,24 +1,13 @@
 -- The states of the models' table, in their order, with their marks.
 use Prim.Native.Nat.{ℕ, zero, suc}
-use mathlib.Core.Bool.{Bool, true, false, cond, _&&_}
-use mathlib.Core.Option.{Option, none, some}
+use mathlib.Core.Bool.{Bool, false, cond, _&&_}
 use mathlib.Core.List.{List, [], _∷_, _++_, map}
 use lib.ListN.{getD}
 use lib.Dec.{eqb}
 use Rattle.table.specs.Rules.{markFor, leftSort, rightSort}
 use Rattle.model.specs.Model.{Model, bears, places}
-use Rattle.model.specs.Documents.{Models}
+use Rattle.model.specs.Documents.{Line}
 use Rattle.model.specs.Sets.{comes, ends}
-
--- an M line: a symbol and its model
-pub record Line : Type 0 where
-  pub of : ℕ
-  pub model : Model
-
--- the model of each symbol that has a line
-unfoldable pub modelOf : List Line → Models
-modelOf [] a = none
-modelOf (ln ∷ ls) a = cond (eqb (ln .of) a) (some (ln .model)) (modelOf ls a)
 
 -- f 0, f 1, .. one behind the other, n of them
 unfoldable pub each : {A : Type 0} → ℕ → (ℕ → List A) → List A

@@ -4,7 +4,7 @@ use mathlib.Core.Path.{_≡_}
 use mathlib.Core.Option.{none, some}
 use mathlib.Core.List.{List, [], _∷_, _++_}
 use Rattle.model.specs.Model.{Model, bears, places, Ambiguous}
-use Rattle.compiled.specs.States.{Line, modelOf}
+use Rattle.model.specs.Documents.{Line, modelOf}
 
 -- a line behind the lines before it: its symbol is below n and has no line yet, and the symbols of its model are below n
 pub record GoodLine (n : ℕ) (before : List Line) (ln : Line) : Type 0 where

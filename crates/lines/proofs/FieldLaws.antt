@@ -64,7 +64,7 @@ module _ (x : List ℕ) (i : ℕ) where
       (λ u. absurd (not-got (rw (t, u) at e))))
       (λ t. absurd (not-got (rw t at e)))
 
-tab-ends : 10 ≤ digit tab
+pub tab-ends : 10 ≤ digit tab
 unfolding digit
 tab-ends = omega arith
 

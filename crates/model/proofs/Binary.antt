@@ -3,20 +3,8 @@ use Prim.Native.Nat.{ℕ}
 use mathlib.Core.Path.{_≡_, refl, _∙_, ap, ap₂}
 use mathlib.Core.List.{[], _∷_, _++_}
 use Rattle.tree.specs.Tree.{Tree, leaf, join}
-use Rattle.model.specs.Documents.{Doc, node, Docs, nil, cons, top, tops, binary, joined}
+use Rattle.model.specs.Documents.{Doc, node, Docs, nil, cons, top, tops, binary, joined, snoc, add, doc}
 use Rattle.model.specs.Documents.{Models, Derives, derive, Each, each-nil, each-cons}
-
--- a document with one more child at the end, and the document of a tree
-unfoldable pub snoc : Docs → Doc → Docs
-snoc nil d = cons d nil
-snoc (cons e ds) d = cons e (snoc ds d)
-
-unfoldable pub add : Doc → Doc → Doc
-add (node a ds) d = node a (snoc ds d)
-
-unfoldable pub doc : Tree → Doc
-doc (leaf a) = node a nil
-doc (join t s) = add (doc t) (doc s)
 
 append : Docs → Docs → Docs
 append nil es = es

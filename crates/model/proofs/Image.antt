@@ -1,10 +1,10 @@
 -- Words of a model are the words of its places, read by the symbols that they bear.
-use Prim.Native.Nat.{ℕ, zero, suc, _+_, _≤_, _<_}
+use Prim.Native.Nat.{ℕ, _+_, _<_}
 use native.Mathlib.Omega.{arith}
 use native.Mathlib.Nat.{zero-add, add-assoc}
 use mathlib.Core.Path.{_≡_, refl, ap₂, ap, subst, sym, _∙_}
 use mathlib.Core.Logic.{_↔_}
-use mathlib.Core.List.{List, [], _∷_, _++_, map, map-append}
+use mathlib.Core.List.{List, [], _++_, map, map-append}
 use lib.ListN.{length, getD, length-append, List·getD-append}
 use lib.Seq.{getD-append-add}
 use Rattle.model.specs.Model.{Model, symbol, empty, sequence, choice, star, maybe, plus, Word, one, nothing, both, left, right, stop, more, skip, take, some, symbols, bears, mark, marked}

@@ -8,3 +8,4 @@ pub mod Positions
 pub mod Binary
 pub mod Read
 pub mod Decided
+pub mod Example

@@ -1,6 +1,6 @@
 -- A word of a linear model is a walk: it begins in First, goes on by Follow and ends in Last.
 use Prim.Native.Nat.{ℕ}
-use mathlib.Core.List.{List, [], _∷_, _++_, append-assoc}
+use mathlib.Core.List.{List, [], _∷_, _++_}
 use mathlib.Core.Logic.{_↔_}
 use Rattle.model.specs.Model.{Model, symbol, empty, sequence, choice, star, maybe, plus, Word, one, nothing, both, left, right, stop, more, skip, take, some}
 use Rattle.model.proofs.Families.{Has, First, f-here, f-seq-l, f-seq-r, f-alt-l, f-alt-r, f-star, f-opt, f-plus, Last, l-here, l-seq-l, l-seq-r, l-alt-l, l-alt-r, l-star, l-opt, l-plus, Follow, n-seq-l, n-seq-r, n-across, n-alt-l, n-alt-r, n-star, n-star-again, n-opt, n-plus, n-plus-again, Apart, Linear, li-symbol, li-empty, li-seq, li-alt, li-star, li-opt, li-plus, first-has, last-has, follow-from, follow-to}

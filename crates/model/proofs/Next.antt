@@ -1,11 +1,11 @@
 -- What can come next after a beginning.
 use Prim.Native.Nat.{ℕ}
-use mathlib.Core.Path.{_≡_, refl, sym, subst}
-use mathlib.Core.Logic.{_↔_, _≢_, _⊎_, inl, inr}
+use mathlib.Core.Path.{_≡_, refl}
+use mathlib.Core.Logic.{_↔_, _≢_}
 use mathlib.Core.List.{List, [], _∷_, _++_, append-assoc}
-use Rattle.model.specs.Model.{Model, symbol, empty, sequence, choice, star, maybe, plus, Word, one, nothing, both, left, right, stop, more, skip, take, some, bears, mark, marked, CanCome, Ambiguous}
+use Rattle.model.specs.Model.{Model, symbol, empty, sequence, choice, star, maybe, plus, Word, one, nothing, both, left, right, stop, more, skip, take, some, bears, marked, CanCome, Ambiguous}
 use Rattle.model.proofs.Families.{Has, h-here, h-seq-l, h-seq-r, h-alt-l, h-alt-r, h-star, h-opt, h-plus, First, Last, Follow, Linear, first-has, follow-from, follow-to}
-use Rattle.model.proofs.Local.{Run, done, step, Walk, none, walk, word-walk, walk-word}
+use Rattle.model.proofs.Local.{Run, done, step, Walk, walk, word-walk, walk-word}
 use Rattle.model.proofs.Places.{mark-linear}
 
 -- Every model has a word, and every symbol of a model stands in one.

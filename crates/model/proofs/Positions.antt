@@ -1,19 +1,18 @@
 -- What can come next at a position and where a word may end, as rules, as tests and by words; and ambiguity as a test. Assumes nothing.
 use Prim.Native.Nat.{ℕ, zero, suc, _<_}
 use native.Mathlib.Omega.{arith}
-use native.Mathlib.Decide.{map-dec}
-use mathlib.Core.Path.{_≡_, sym, subst}
+use mathlib.Core.Path.{_≡_, subst}
 use mathlib.Core.Logic.{_↔_, _≢_}
-use mathlib.Core.Bool.{Bool, true, false, not, _||_, _&&_}
-use mathlib.Core.List.{List, [], _∷_, _++_, append-assoc}
+use mathlib.Core.Bool.{not, _&&_}
+use mathlib.Core.List.{[], _∷_, _++_, append-assoc}
 use lib.Dec.{T, eqb, eqb→eq, eqb-refl, T-not, not-T}
-use Rattle.model.specs.Model.{Model, Word, bears, places, mark, marked, CanCome, Ambiguous, ComesNext, MayEnd}
-use Rattle.model.specs.Sets.{nullable, first, last, follow, comes, ends, someBelow, alike, ambiguous}
+use Rattle.model.specs.Model.{Model, Word, bears, places, marked, Ambiguous, ComesNext, MayEnd}
+use Rattle.model.specs.Sets.{comes, ends, someBelow, alike, ambiguous}
 use Rattle.model.proofs.Families.{Has, First, Last, Follow, first-has, last-has, follow-from, follow-to}
-use Rattle.model.proofs.Local.{Run, done, Walk, walk, word-walk, walk-word}
+use Rattle.model.proofs.Local.{word-walk, walk-word}
 use Rattle.model.proofs.Places.{has-inside, mark-linear}
-use Rattle.model.proofs.Next.{Passes, passes, a-word, has-passes, After, next-after, after-next, after-snoc, snoc-after, walk-last, walk-end, Clash, at-start, after-place, ambiguous-iff}
-use Rattle.model.proofs.Tests.{or-elim, or-left, or-right, and-elim, and-both, nullable-word, word-nullable, test-first, first-test, test-last, last-test, test-follow, follow-test, test-below, below-test}
+use Rattle.model.proofs.Next.{Passes, passes, a-word, has-passes, next-after, after-next, after-snoc, snoc-after, walk-last, walk-end, Clash, at-start, after-place, ambiguous-iff}
+use Rattle.model.proofs.Tests.{and-elim, and-both, nullable-word, word-nullable, test-first, first-test, test-last, last-test, test-follow, follow-test, test-below, below-test}
 
 -- the rules by position
 abbrev pub Comes : Model → ℕ → ℕ → Type 0
@@ -142,10 +141,3 @@ test-clashes m t =
 
 pub ambiguous-exactly : (m : Model) → T (ambiguous m) ↔ Ambiguous m
 ambiguous-exactly m = (λ t. ambiguous-clashes m .1 (test-clashes m t), λ a. clashes-test m (ambiguous-clashes m .0 a))
-
-pub ambiguous? : (m : Model) → Dec (Ambiguous m)
-ambiguous? m = go (ambiguous m) (ambiguous-exactly m)
-  where
-    go : (b : Bool) → T b ↔ Ambiguous m → Dec (Ambiguous m)
-    go true e = yes (e .0 tt)
-    go false e = no (λ a. e .1 a)

@@ -1,15 +1,15 @@
 -- The tests of specs/Sets and the families of rules say the same. Assumes nothing.
-use Prim.Native.Nat.{ℕ, zero, suc, _+_, _≤_, _<_}
+use Prim.Native.Nat.{ℕ, zero, suc, _+_, _<_}
 use native.Mathlib.Omega.{arith}
 use native.Mathlib.Decide.{ℕ-discrete}
-use mathlib.Core.Path.{_≡_, refl, sym, subst, ap}
+use mathlib.Core.Path.{_≡_, subst}
 use mathlib.Core.Logic.{_↔_, _≢_}
-use mathlib.Core.Bool.{Bool, true, false, not, _||_, _&&_}
+use mathlib.Core.Bool.{Bool, true, false, _||_, _&&_}
 use mathlib.Core.List.{List, [], _∷_, _++_}
 use lib.Dec.{T, eqb→eq, eqb-refl}
 use Rattle.model.specs.Model.{Model, symbol, empty, sequence, choice, star, maybe, plus, Word, one, nothing, both, left, right, stop, more, skip, take, some}
 use Rattle.model.specs.Sets.{nullable, first, last, follow, someBelow}
-use Rattle.model.proofs.Families.{Has, First, f-here, f-seq-l, f-seq-r, f-alt-l, f-alt-r, f-star, f-opt, f-plus, Last, l-here, l-seq-l, l-seq-r, l-alt-l, l-alt-r, l-star, l-opt, l-plus, Follow, n-seq-l, n-seq-r, n-across, n-alt-l, n-alt-r, n-star, n-star-again, n-opt, n-plus, n-plus-again}
+use Rattle.model.proofs.Families.{First, f-here, f-seq-l, f-seq-r, f-alt-l, f-alt-r, f-star, f-opt, f-plus, Last, l-here, l-seq-l, l-seq-r, l-alt-l, l-alt-r, l-star, l-opt, l-plus, Follow, n-seq-l, n-seq-r, n-across, n-alt-l, n-alt-r, n-star, n-star-again, n-opt, n-plus, n-plus-again}
 
 -- tests taken apart and put together
 pub or-elim : {C : Type 0} (a b : Bool) → (T a → C) → (T b → C) → T (a || b) → C

@@ -1,8 +1,10 @@
 -- Documents, their binary form, and what models derive.
 use Prim.Native.Nat.{ℕ}
-use mathlib.Core.Path.{_≡_, refl}
-use mathlib.Core.Option.{Option, some}
+use mathlib.Core.Path.{_≡_}
+use mathlib.Core.Bool.{cond}
+use mathlib.Core.Option.{Option, none, some}
 use mathlib.Core.List.{List, [], _∷_}
+use lib.Dec.{eqb}
 use Rattle.tree.specs.Tree.{Tree, leaf, join}
 use Rattle.model.specs.Model.{Model, Word}
 
@@ -32,9 +34,31 @@ abbrev mutual
   joined t nil = t
   joined t (cons d ds) = joined (join t (binary d)) ds
 
--- the model of each symbol that has one
+-- a document with one more child at the end, and the document of a tree
+unfoldable pub snoc : Docs → Doc → Docs
+snoc nil d = cons d nil
+snoc (cons e ds) d = cons e (snoc ds d)
+
+unfoldable pub add : Doc → Doc → Doc
+add (node a ds) d = node a (snoc ds d)
+
+unfoldable pub doc : Tree → Doc
+doc (leaf a) = node a nil
+doc (join t s) = add (doc t) (doc s)
+
+-- for each symbol its model, if it has one
 abbrev pub Models : Type 0
 Models = ℕ → Option Model
+
+-- an M line: a symbol and its model
+pub record Line : Type 0 where
+  pub of : ℕ
+  pub model : Model
+
+-- the model of each symbol that has a line
+unfoldable pub modelOf : List Line → Models
+modelOf [] a = none
+modelOf (ln ∷ ls) a = cond (eqb (ln .of) a) (some (ln .model)) (modelOf ls a)
 
 -- the documents of a symbol: that symbol is at the top, the children's symbols in order are a word of its model, and each child is a
 -- document of its own symbol. A symbol without a model has no documents.
@@ -45,11 +69,3 @@ mutual
   pub data Each (M : Models) : Docs → Type 0 where
     each-nil : Each M nil
     each-cons : {d : Doc} {ds : Docs} → Derives M (top d) d → Each M ds → Each M (cons d ds)
-
--- f(a, g(a,b), c) becomes ((f@a)@((g@a)@b))@c
-example :
-    binary
-    (node 0
-    (cons (node 1 nil) (cons (node 2 (cons (node 1 nil) (cons (node 3 nil) nil))) (cons (node 4 nil) nil))))
-    ≡ join (join (join (leaf 0) (leaf 1)) (join (join (leaf 2) (leaf 1)) (leaf 3))) (leaf 4)
-example = refl

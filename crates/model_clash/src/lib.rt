@@ -27,7 +27,7 @@ fn comes_next(next: &[u16], q: usize, y: usize) -> bool
     next[row + y] != 0
 }
 
-// Are y and z two places with one symbol that can come next after the state q?
+// Are y and z places with one symbol that can come next after the state q?
 fn are_alike(bears: &[u16], next: &[u16], q: usize, y: usize, z: usize) -> bool
     ensures { λ r. ⌜ Tells r (Like (limits .states) (now (bears .entry)) (now (next .entry)) q y z) ⌝ }
 {
@@ -46,7 +46,7 @@ fn are_alike(bears: &[u16], next: &[u16], q: usize, y: usize, z: usize) -> bool
     false
 }
 
-// The first two like places among those from `from` on up to `to` that can come next after the state q.
+// Two like places, the first that are met, among those from `from` on up to `to` that can come next after the state q.
 fn like_places(bears: &[u16], next: &[u16], q: usize, from: usize, to: usize) -> Found
     ensures { λ r. ⌜ Finds (limits .states) (now (bears .entry)) (now (next .entry)) q from to r ⌝ }
 {

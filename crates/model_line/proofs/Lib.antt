@@ -2,4 +2,5 @@
 pub mod SplitLaws
 pub mod LineLaws
 pub mod Known
+pub mod Shape
 pub mod Examples

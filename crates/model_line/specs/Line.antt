@@ -2,12 +2,12 @@
 use Prim.Native.Nat.{ℕ, _+_, _-_}
 use mathlib.Core.Bool.{cond, _&&_}
 use mathlib.Core.Option.{Option, none, some}
-use mathlib.Core.List.{List}
+use mathlib.Core.List.{List, [], _∷_, _++_}
 use lib.ListN.{length, take, drop}
 use lib.Dec.{eqb}
 use Rattle.paper.specs.Limits.{Limits, at}
 use Rattle.lines.specs.Lines.{tab, lf}
-use Rattle.lines.specs.Fields.{field, fields}
+use Rattle.lines.specs.Fields.{field, fields, entry}
 use Rattle.lines.specs.declared.Number.{Number}
 use Rattle.lines.specs.declared.Number.the-variants.{Value, Bad}
 use Rattle.lines.specs.declared.Fields.{Fields}
@@ -59,6 +59,10 @@ modelSaid L n x cut.Misshapen = misshapen
 -- what a line says over n symbols
 unfoldable pub says : Limits → ℕ → List ℕ → Said
 says L n x = cond (eqb (at x 0) letterD) (headSaid (fields 2 x)) (modelSaid L n x (splitOf x))
+
+-- `M¦symbol¦tokens`: the line of the symbol a and the token field f
+unfoldable pub modelLine : ℕ → List ℕ → List ℕ
+modelLine a f = letterM ∷ (entry a ++ (tab ∷ (f ++ (lf ∷ []))))
 
 -- what the line reader answers
 unfoldable pub lineOf : Said → Line

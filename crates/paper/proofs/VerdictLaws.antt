@@ -1,10 +1,9 @@
 -- Where one number c is told of whatever is wrong: `first` refuses exactly the first thing that is wrong. Assumes nothing.
-use Prim.Native.Nat.{ℕ, _+_, _<_}
+use Prim.Native.Nat.{ℕ, _+_}
 use mathlib.Core.Path.{_≡_, sym, _∙_}
 use mathlib.Core.Logic.{_≢_, _⊎_, inl, inr, ⊎-elim}
-use native.Mathlib.Omega.{arith}
 use Rattle.paper.specs.Told.{Told, refused}
-use Rattle.paper.specs.First.{First, Clear, first}
+use Rattle.paper.specs.First.{First, Clear, first, FirstWrong, NoneWrong}
 use Rattle.paper.proofs.FirstLaws.{first-clear, first-fault, first-or-clear}
 
 -- c where something is wrong, else 0
@@ -26,15 +25,6 @@ right-of d (inr x) e w = x .1 w
 pub fault-of : {c f : ℕ} {W : Type 0} → Verdict c f W → f ≢ 0 → W
 fault-of (inl x) d = x .1
 fault-of (inr x) d = absurd (d (x .0))
-
--- thing k of the first n is wrong, and none before it
-pub record FirstWrong (W : ℕ → Type 0) (n k : ℕ) : Type 0 where
-  pub inside : k < n
-  pub wrong : W k
-  pub before : (j : ℕ) → j < k → ¬ W j
-
-abbrev pub NoneWrong : (ℕ → Type 0) → ℕ → Type 0
-NoneWrong W n = (j : ℕ) → j < n → ¬ W j
 
 module _ (c : ℕ) (f : ℕ → ℕ) (W : ℕ → Type 0) (d : c ≢ 0) (v : (k : ℕ) → Verdict c (f k) (W k)) where
   pub first-wrong : (n k : ℕ) (z : Told) → FirstWrong W n k → first f n z ≡ refused c 0 (k + 1)

@@ -20,3 +20,13 @@ Clear f n = (j : ℕ) → j < n → f j ≡ 0
 unfoldable pub first : (ℕ → ℕ) → ℕ → Told → Told
 first f zero z = z
 first f (suc n) z = first f n (ite (ℕ-discrete (f n) 0) z (refused (f n) 0 (n + 1)))
+
+-- of what is wrong with a thing, W: thing k of the first n is wrong, and none before it
+pub record FirstWrong (W : ℕ → Type 0) (n k : ℕ) : Type 0 where
+  pub inside : k < n
+  pub wrong : W k
+  pub before : (j : ℕ) → j < k → ¬ W j
+
+-- none of the first n things is wrong
+abbrev pub NoneWrong : (ℕ → Type 0) → ℕ → Type 0
+NoneWrong W n = (j : ℕ) → j < n → ¬ W j

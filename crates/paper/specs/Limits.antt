@@ -16,10 +16,12 @@ pub record Limits : Type 0 where
   pub text : ℕ
   -- at most so many tokens has a model
   pub tokens : ℕ
+  -- programs read at most so many bytes of a text
+  pub input : ℕ
 
 -- the limits of the paper
 abbrev pub limits : Limits
-limits = record { symbols = 40; states = 60; rules = 600; width = 4; nodes = 3660; text = 8192; tokens = 200 }
+limits = record { symbols = 40; states = 60; rules = 600; width = 4; nodes = 3660; text = 8192; tokens = 200; input = 32768 }
 
 -- number i of a list of numbers, 0 behind its end
 abbrev pub at : List ℕ → ℕ → ℕ

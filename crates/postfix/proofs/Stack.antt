@@ -181,7 +181,7 @@ module _ (n : ℕ) (f : List ℕ) (i : ℕ) (h : i ≤ length f) where
       let w : i + suc (length (front (drop i f))) ≡ j = cc in
       (z ∙ ap some x, sym w))
 
-  token-bad : OneOf (1 ∷ (2 ∷ [])) (tagOf the-type (tokenAt n f i)) → tokenOf n (front (drop i f)) ≡ none
+  pub token-bad : OneOf (1 ∷ (2 ∷ [])) (tagOf the-type (tokenAt n f i)) → tokenOf n (front (drop i f)) ≡ none
   unfolding one
   token-bad e =
       options (tokenOf n (front (drop i f)))

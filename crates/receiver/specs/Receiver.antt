@@ -5,14 +5,14 @@ use mathlib.Core.Logic.{_≢_, _⊎_}
 use mathlib.Core.List.{List}
 use lib.ListN.{length}
 use Rattle.paper.specs.Limits.{Limits, at, joinKind, epsKind}
-use Rattle.table.specs.Rules.{RulesOf, Reach, sortOf, leftSort, rightSort}
+use Rattle.table.specs.Rules.{RulesOf, Reach, sortOf, leftSort, rightSort, bothSort}
 
 -- a state of sort 1 or 3 may stand left of a join, one of sort 2 or 3 right of it
 abbrev pub MayLeft : List ℕ → ℕ → Type 0
-MayLeft ms q = sortOf (at ms q) ≢ rightSort
+MayLeft ms q = (sortOf (at ms q) ≡ leftSort) ⊎ (sortOf (at ms q) ≡ bothSort)
 
 abbrev pub MayRight : List ℕ → ℕ → Type 0
-MayRight ms q = sortOf (at ms q) ≢ leftSort
+MayRight ms q = (sortOf (at ms q) ≡ rightSort) ⊎ (sortOf (at ms q) ≡ bothSort)
 
 -- 7: rule i, a leaf or join rule, has an earlier rule's left side: its kind and all its numbers but the target
 abbrev pub LeftSideAgain : Limits → List ℕ → ℕ → Type 0

@@ -13,7 +13,7 @@ use Rattle.rule_read.specs.declared.Reading.{Reading}
 use Rattle.rule_read.specs.declared.Reading.the-variants.{Read, Refused}
 use Rattle.rule_part.specs.Part.{lineOr, faultyPart}
 use Rattle.rule_read.proofs.Exact.{TextVerdict, isRefused, isSound, text-verdict, of-refused, text-table, text-numbered, read-on}
-use Rattle.rule_read.proofs.Filling.{roomy}
+use Rattle.table.proofs.RoomLaws.{roomy}
 
 module _ (t : Told) where
   no-place : {y n r : ℕ} → t ≡ holds y n r → placeOf t ≡ 0

@@ -61,7 +61,3 @@ module _ (L : Limits) (s M W : List ℕ) where
           marks = u ∙ fill-front (readTold L s M W) (marksOf (saidBy s)) M (sym q) n M₁ (f .marks) (f .marksIn);
           rules = v ∙ fill-front (readTold L s M W) (rulesOf (saidBy s)) W (sym q) (r * L .width) W₁ (f .rules) (f .rulesIn);
         }
-
--- there is room, from the tests that failed
-pub roomy : (L : Limits) (M W : List ℕ) → L .states ≤ length M → L .rules * L .width ≤ length W → ¬ NoRoom L M W
-roomy L M W a b = ⊎-elim (λ x. omega arith) (λ x. omega arith)

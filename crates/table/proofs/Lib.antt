@@ -1,3 +1,4 @@
 pub mod Evaluate
 pub mod Exact
 pub mod Rows
+pub mod RoomLaws

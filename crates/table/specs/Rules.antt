@@ -49,8 +49,11 @@ leftSort = 1
 abbrev pub rightSort : ℕ
 rightSort = 2
 
+abbrev pub bothSort : ℕ
+bothSort = 3
+
 abbrev pub mostSort : ℕ
-mostSort = 3
+mostSort = bothSort
 
 abbrev pub mostFinal : ℕ
 mostFinal = 1

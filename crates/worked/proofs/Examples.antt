@@ -18,9 +18,11 @@ use Rattle.model.specs.Postfix.{parse}
 use Rattle.model.specs.declared.Token.the-variants.{Symbol, Empty, Star, Query}
 use Rattle.model.proofs.Tests.{and-elim, and-both}
 use Rattle.model.proofs.Positions.{ambiguous-exactly}
-use Rattle.model.proofs.Binary.{snoc, add, doc, derives-top}
+use Rattle.model.proofs.Binary.{derives-top}
+use Rattle.model.specs.Documents.{snoc, add, doc}
 use Rattle.model.proofs.Decided.{derives, derives-exactly}
-use Rattle.compiled.specs.States.{modelOf, each, insides, allInsides, states, markOf, marks, stateAt}
+use Rattle.compiled.specs.States.{each, insides, allInsides, states, markOf, marks, stateAt}
+use Rattle.model.specs.Documents.{modelOf}
 use Rattle.compiled.specs.States.{initialOf, owner, mayEnd, bearing, goesOn}
 use Rattle.compiled.specs.Rules.{only, leafRules, epsRules, joinRules, rules, numbersOf, numbers}
 use Rattle.compiled.specs.Valid.{GoodLines, noLine, oneMore, Valid}

@@ -11,7 +11,8 @@ use Rattle.model.specs.Model.{Model, symbol, empty, star, maybe, Ambiguous}
 use Rattle.model.specs.Postfix.{parse}
 use Rattle.model.specs.declared.Token.{Token}
 use Rattle.model.specs.declared.Token.the-variants.{Symbol, Comma, Bar, Star, Query}
-use Rattle.compiled.specs.States.{Line, marks}
+use Rattle.compiled.specs.States.{marks}
+use Rattle.model.specs.Documents.{Line}
 use Rattle.compiled.specs.Rules.{rules, numbers}
 
 -- the models of K: three symbols, the start 0, and the lines `1 *` for 0, `2 ?` for 1 and `e` for 2

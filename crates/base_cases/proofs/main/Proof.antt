@@ -4,10 +4,10 @@ use Rattle.base_cases.proofs.main.Statement.{statement}
 use Rattle.base_cases.proofs.main.Tie as tie
 
 abbrev Inv-loop : tie.InvT-loop
-Inv-loop n₀ n = n ≤ 49
+Inv-loop n₀ n = n ≤ 53
 
 abbrev μ-loop : tie.MeasureT-loop
-μ-loop n₀ n = 49 - n
+μ-loop n₀ n = 53 - n
 
 loop-holds : tie.Need-loop-holds Inv-loop μ-loop
 loop-holds c = search needs
@@ -23,12 +23,6 @@ loop-less c = search needs
 
 loop-again : tie.Need-loop-again Inv-loop μ-loop
 loop-again c = search needs
-
-short-marks-requires : tie.Need-short-marks-requires Inv-loop μ-loop
-short-marks-requires c κs = search needs
-
-short-rules-requires : tie.Need-short-rules-requires Inv-loop μ-loop
-short-rules-requires c κs = search needs
 
 short-text-requires : tie.Need-short-text-requires Inv-loop μ-loop
 short-text-requires c κs = search needs
@@ -47,7 +41,5 @@ main-spec =
     add-n
     loop-less
     loop-again
-    short-marks-requires
-    short-rules-requires
     short-text-requires
     returns)

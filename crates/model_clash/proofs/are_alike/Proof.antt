@@ -2,54 +2,39 @@ use native.Mathlib.Omega.{arith}
 use Rattle.paper.proofs.TellsLaws.{tells-no}
 use Rattle.model_clash.proofs.LikeLaws.{like-tells}
 use borrow.Author.Needs.{needs}
-use denote.Ref.{now}
 use Rattle.model_clash.proofs.are_alike.Statement.{statement}
 use Rattle.model_clash.proofs.are_alike.Tie as tie
-use Rattle.model_clash.proofs.are_alike.Reads as reads
-use Rattle.model_clash.proofs.are_alike.Lts as lts
-use Rattle.model_clash.proofs.comes_next.Reads as comes-next-reads
 
--- src/lib.rt:35:9
 returns : tie.Need-returns
 returns c = tells-no (λ l. let h = l .insideY in omega arith)
 
--- src/lib.rt:38:9
 returns-2 : tie.Need-returns-2
 returns-2 c = tells-no (λ l. let h = l .insideZ in omega arith)
 
--- src/lib.rt:40:8
 mul-if3 : tie.Need-mul-if3
 mul-if3 c = search needs
 
--- src/lib.rt:40:8
 shared-slice-read-if3 : tie.Need-shared-slice-read-if3
 shared-slice-read-if3 c = search needs
 
--- src/lib.rt:40:20
 mul-if3-2 : tie.Need-mul-if3-2
 mul-if3-2 c = search needs
 
--- src/lib.rt:40:20
 shared-slice-read-if3-2 : tie.Need-shared-slice-read-if3-2
 shared-slice-read-if3-2 c = search needs
 
--- src/lib.rt:41:9
 returns-3 : tie.Need-returns-3
 returns-3 c = tells-no (λ l. c .if3 .taken (l .same))
 
--- src/lib.rt:43:8
 comes-next-requires : tie.Need-comes-next-requires
 comes-next-requires c κs = search needs
 
--- src/lib.rt:44:9
 comes-next-requires-2 : tie.Need-comes-next-requires-2
 comes-next-requires-2 c κs = search needs
 
--- src/lib.rt:44:9
 returns-4 : tie.Need-returns-4
 returns-4 c = like-tells (omega arith) (omega arith) (c .before .before .before .if3 .left) (c .before .before .comes-next .ensures .yes (c .before .if4 .taken)) (c .comes-next2 .ensures)
 
--- src/lib.rt:31:1
 returns-5 : tie.Need-returns-5
 returns-5 c = tells-no (λ l. c .before .comes-next .ensures .no (c .if4 .left) (l .nextY))
 

@@ -6,9 +6,6 @@ use Rattle.model_clash.proofs.LikeLaws.{NoneBefore, before-start, befor
 use borrow.Author.Needs.{needs}
 use Rattle.model_clash.proofs.clashes.Statement.{statement}
 use Rattle.model_clash.proofs.clashes.Tie as tie
-use Rattle.model_clash.proofs.clashes.Reads as reads
-use Rattle.model_clash.proofs.clashes.Lts as lts
-use Rattle.model_clash.proofs.like_places.Reads as like-places-reads
 
 abbrev Inv-loop : tie.InvT-loop
 Inv-loop bears next from to q₀ q = (from ≤ q) × NoneBefore (limits .states) bears next from to q
@@ -16,38 +13,30 @@ Inv-loop bears next from to q₀ q = (from ≤ q) × NoneBefore (limits .states)
 abbrev μ-loop : tie.MeasureT-loop
 μ-loop bears next from to q₀ q = to - q
 
--- src/lib.rt:70:5
 loop-holds : tie.Need-loop-holds Inv-loop μ-loop
 loop-holds c = (omega arith, before-start)
 
--- src/lib.rt:71:15
 like-places-requires : tie.Need-like-places-requires Inv-loop μ-loop
 like-places-requires c κs = tt
 
--- src/lib.rt:72:34
 enum-told : tie.Need-enum-told Inv-loop μ-loop
 enum-told c = search needs
 
--- src/lib.rt:72:34
 returns : tie.Need-returns Inv-loop μ-loop
 returns c = tells-yes (clash-found (c .before .before .before .before .loop .inv .0) (c .before .before .before .loop-test .taken) (c .before .before .like-places .ensures) (c .enum-told .given .1))
 
 enum-told-2 : tie.Need-enum-told-2 Inv-loop μ-loop
 enum-told-2 c = search needs
 
--- src/lib.rt:75:9
 add-q : tie.Need-add-q Inv-loop μ-loop
 add-q c = omega arith
 
--- src/lib.rt:70:5
 loop-less : tie.Need-loop-less Inv-loop μ-loop
 loop-less c = omega arith
 
--- src/lib.rt:70:5
 loop-again : tie.Need-loop-again Inv-loop μ-loop
 loop-again c = (omega arith, before-more (c .before .before .before .before .loop .inv .1) (c .before .before .like-places .ensures .nothing (c .enum-told2 .given .1)))
 
--- src/lib.rt:66:1
 returns-2 : tie.Need-returns-2 Inv-loop μ-loop
 returns-2 c = tells-no (clash-none (omega arith) (c .before .loop .inv .1))
 

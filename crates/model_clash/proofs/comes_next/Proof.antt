@@ -5,38 +5,28 @@ use borrow.Author.Needs.{needs}
 use denote.Ref.{now}
 use Rattle.model_clash.proofs.comes_next.Statement.{statement}
 use Rattle.model_clash.proofs.comes_next.Tie as tie
-use Rattle.model_clash.proofs.comes_next.Reads as reads
-use Rattle.model_clash.proofs.comes_next.Lts as lts
 
--- src/lib.rt:21:9
 returns : tie.Need-returns
 returns c = tells-no (none-behind (now (c .before .args .next)) _ (omega arith))
 
--- src/lib.rt:23:15
 mul-row : tie.Need-mul-row
 mul-row c = search needs
 
--- src/lib.rt:24:8
 sub-if2 : tie.Need-sub-if2
 sub-if2 c = search needs
 
--- src/lib.rt:25:9
 returns-2 : tie.Need-returns-2
 returns-2 c = tells-no (none-behind (now (c .before .before .args .next)) _ (omega arith))
 
--- src/lib.rt:27:10
 add-result : tie.Need-add-result
 add-result c = search needs
 
--- src/lib.rt:27:5
 mul-result : tie.Need-mul-result
 mul-result c = search needs
 
--- src/lib.rt:27:5
 shared-slice-read-result : tie.Need-shared-slice-read-result
 shared-slice-read-result c = search needs
 
--- src/lib.rt:16:1
 returns-3 : tie.Need-returns-3
 returns-3 c = tells-ne _ _ (λ n. n) (λ e n. n e)
 

@@ -6,9 +6,6 @@ use Rattle.model_clash.specs.declared.Found.the-variants.{Nothing}
 use Rattle.model_clash.proofs.LikeLaws.{NonePaired, NoneLike, none-start, like-start, like-more, none-more, finds-pair, finds-nothing}
 use Rattle.model_clash.proofs.like_places.Statement.{statement}
 use Rattle.model_clash.proofs.like_places.Tie as tie
-use Rattle.model_clash.proofs.like_places.Reads as reads
-use Rattle.model_clash.proofs.like_places.Lts as lts
-use Rattle.model_clash.proofs.are_alike.Reads as are-alike-reads
 
 abbrev Inv-loop : tie.InvT-loop
 Inv-loop bears next q from to found₀ y z₀ found z = (found ≡ Nothing) × (y < to) × (from ≤ z) × NonePaired (limits .states) bears next q from y × NoneLike (limits .states) bears next q from y z
@@ -22,51 +19,40 @@ Inv-search bears next q from to found₀ y₀ found y = (found ≡ Nothing) × (
 abbrev μ-search : tie.MeasureT-search
 μ-search bears next q from to found₀ y₀ found y = to - y
 
--- src/lib.rt:54:5
 search-holds : tie.Need-search-holds Inv-loop μ-loop Inv-search μ-search
 search-holds c = (refl, omega arith, none-start _)
 
--- src/lib.rt:55:9
 loop-holds : tie.Need-loop-holds Inv-loop μ-loop Inv-search μ-search
 loop-holds c = (c .before .search .inv .0, omega arith, omega arith, c .before .search .inv .2, like-start _ _)
 
--- src/lib.rt:56:16
 are-alike-requires : tie.Need-are-alike-requires Inv-loop μ-loop Inv-search μ-search
 are-alike-requires c κs = tt
 
--- src/lib.rt:55:13
 add-z : tie.Need-add-z Inv-loop μ-loop Inv-search μ-search
 add-z c = omega arith
 
--- src/lib.rt:55:9
 loop-less : tie.Need-loop-less Inv-loop μ-loop Inv-search μ-search
 loop-less c = omega arith
 
--- src/lib.rt:55:9
 loop-again : tie.Need-loop-again Inv-loop μ-loop Inv-search μ-search
 loop-again c =
     let v = c .before .before .before .loop .inv in
     (v .0, v .1, omega arith, v .3, like-more (v .4) (c .before .are-alike .ensures .no (c .if1 .left)))
 
--- src/lib.rt:54:18
 add-y : tie.Need-add-y Inv-loop μ-loop Inv-search μ-search
 add-y c = omega arith
 
--- src/lib.rt:54:5
 search-less : tie.Need-search-less Inv-loop μ-loop Inv-search μ-search
 search-less c = omega arith
 
--- src/lib.rt:54:5
 search-again : tie.Need-search-again Inv-loop μ-loop Inv-search μ-search
 search-again c =
     let v = c .before .loop .inv in
     (v .0, omega arith, none-more (omega arith) (v .3) (v .4))
 
--- src/lib.rt:50:1
 returns : tie.Need-returns Inv-loop μ-loop Inv-search μ-search
 returns c = finds-nothing (c .before .search .inv .0) (omega arith) (c .before .search .inv .2)
 
--- src/lib.rt:50:1
 returns-2 : tie.Need-returns-2 Inv-loop μ-loop Inv-search μ-search
 returns-2 c =
     let v = c .before .before .before .loop .inv in

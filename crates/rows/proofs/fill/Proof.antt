@@ -6,8 +6,6 @@ use Rattle.rows.proofs.FillLaws.{fill-none, fill-more, fill-short, fill
 use borrow.Author.Needs.{needs}
 use Rattle.rows.proofs.fill.Statement.{statement}
 use Rattle.rows.proofs.fill.Tie as tie
-use Rattle.rows.proofs.fill.Reads as reads
-use Rattle.rows.proofs.fill.Lts as lts
 
 abbrev Inv-loop : tie.InvT-loop
 Inv-loop s₀ from to v i₀ s i = Filled s₀ from i v s × ((from ≤ i) × ((i ≤ to) ⊎ (i ≤ from)))
@@ -15,43 +13,33 @@ Inv-loop s₀ from to v i₀ s i = Filled s₀ from i v s × ((from ≤ i) × ((
 abbrev μ-loop : tie.MeasureT-loop
 μ-loop s₀ from to v i₀ s i = to - i
 
--- src/lib.rt:31:5
 loop-holds : tie.Need-loop-holds Inv-loop μ-loop
 loop-holds c = (fill-none _ _ _, (omega arith, inr (omega arith)))
 
--- src/lib.rt:33:13
 same-length : tie.Need-same-length Inv-loop μ-loop
 same-length c = search needs
 
--- src/lib.rt:33:13
 returns : tie.Need-returns Inv-loop μ-loop
 returns c = fill-short (omega arith) (omega arith) (c .before .before .loop .inv .0)
 
--- src/lib.rt:35:9
 mul-s : tie.Need-mul-s Inv-loop μ-loop
 mul-s c = search needs
 
--- src/lib.rt:35:9
 slice-write-s : tie.Need-slice-write-s Inv-loop μ-loop
 slice-write-s c = search needs
 
--- src/lib.rt:36:9
 add-i : tie.Need-add-i Inv-loop μ-loop
 add-i c = search needs
 
--- src/lib.rt:31:5
 loop-less : tie.Need-loop-less Inv-loop μ-loop
 loop-less c = search needs
 
--- src/lib.rt:31:5
 loop-again : tie.Need-loop-again Inv-loop μ-loop
 loop-again c = (fill-more (c .before .before .loop .inv .1 .0) (omega arith) (c .before .before .loop .inv .0), (omega arith, inl (omega arith)))
 
--- src/lib.rt:27:1
 same-length-2 : tie.Need-same-length-2 Inv-loop μ-loop
 same-length-2 c = search needs
 
--- src/lib.rt:27:1
 returns-2 : tie.Need-returns-2 Inv-loop μ-loop
 returns-2 c = fill-end (omega arith) (c .before .loop .inv .1 .1) (c .before .loop .inv .0)
 

@@ -2,7 +2,8 @@ use mathlib.Core.Logic.{inl, inr}
 use denote.Ref.{now}
 use native.Mathlib.Omega.{arith}
 use Rattle.paper.specs.Limits.{limits}
-use Rattle.rule_read.proofs.Filling.{roomy, reads-short, reads-refused, reads-table}
+use Rattle.rule_read.proofs.Filling.{reads-short, reads-refused, reads-table}
+use Rattle.table.proofs.RoomLaws.{roomy}
 use borrow.Author.Needs.{needs}
 use Rattle.rule_read.proofs.read_text.Statement.{statement}
 use Rattle.rule_read.proofs.read_text.Tie as tie

@@ -1,8 +1,8 @@
 use Prim.Native.Nat.{_≤_, _-_}
 use lib.ListN.{length}
 use borrow.Author.Needs.{needs}
-use Rattle.base_cases.proofs.texts.kept.Statement.{statement}
-use Rattle.base_cases.proofs.texts.kept.Tie as tie
+use Rattle.say.proofs.kept.Statement.{statement}
+use Rattle.say.proofs.kept.Tie as tie
 
 abbrev Inv-loop : tie.InvT-loop
 Inv-loop numbers i₀ i = i ≤ length numbers

@@ -1,0 +1,58 @@
+use native.Mathlib.Omega.{arith}
+use lib.ListN.{length-take}
+use borrow.Author.Needs.{needs}
+use Rattle.model_cases.proofs.compile.Statement.{statement}
+use Rattle.model_cases.proofs.compile.Tie as tie
+
+slice-aggregate-load : tie.Need-slice-aggregate-load
+slice-aggregate-load c = search needs
+
+load-requires : tie.Need-load-requires
+load-requires c κs = search needs
+
+less-requires : tie.Need-less-requires
+less-requires c κs = search needs
+
+less-requires-2 : tie.Need-less-requires-2
+less-requires-2 c κs = search needs
+
+array-share-prefix-bytes : tie.Need-array-share-prefix-bytes
+array-share-prefix-bytes c = search needs
+
+slice-aggregate-compile-into : tie.Need-slice-aggregate-compile-into
+slice-aggregate-compile-into c = simp length-take (omega arith)
+
+array-borrow-prefix-marks : tie.Need-array-borrow-prefix-marks
+array-borrow-prefix-marks c = search needs
+
+slice-aggregate-compile-into-2 : tie.Need-slice-aggregate-compile-into-2
+slice-aggregate-compile-into-2 c = simp length-take (omega arith)
+
+array-borrow-prefix-rules : tie.Need-array-borrow-prefix-rules
+array-borrow-prefix-rules c = search needs
+
+slice-aggregate-compile-into-3 : tie.Need-slice-aggregate-compile-into-3
+slice-aggregate-compile-into-3 c = simp length-take (omega arith)
+
+compile-into-requires : tie.Need-compile-into-requires
+compile-into-requires c κs = search needs
+
+returns : tie.Need-returns
+returns c = search needs
+
+pub compile-spec : {M : Type 1} → statement M
+compile-spec =
+    tie.close
+    (tie.spec
+    slice-aggregate-load
+    load-requires
+    less-requires
+    less-requires-2
+    array-share-prefix-bytes
+    slice-aggregate-compile-into
+    array-borrow-prefix-marks
+    slice-aggregate-compile-into-2
+    array-borrow-prefix-rules
+    slice-aggregate-compile-into-3
+    compile-into-requires
+    returns)

@@ -1,0 +1,10 @@
+pub mod Lending
+pub mod StateLaws
+pub mod KeptLaws
+pub mod ClearLaws
+pub mod Clashing
+pub mod Ambiguities
+pub mod Adding
+pub mod Going
+pub mod FillLaws
+pub mod Unique

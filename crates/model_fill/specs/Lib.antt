@@ -1,0 +1,4 @@
+pub mod Ambiguity
+pub mod Kept
+pub mod Work
+pub mod Fill

@@ -1,0 +1,9 @@
+pub mod Painting
+pub mod Flags
+pub mod Taken
+pub mod Cells
+pub mod Kept
+pub mod Steps
+pub mod Going
+pub mod Filling
+pub mod Unique

@@ -1,0 +1,9 @@
+pub mod WriteLaws
+pub mod CountLaws
+pub mod MarkLaws
+pub mod Rest
+pub mod ByKept
+pub mod Chain
+pub mod Exact
+pub mod Compiling
+pub mod Right

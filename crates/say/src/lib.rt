@@ -1,0 +1,102 @@
+// What the programs of cases share: reading a case's file, writing what it is told, and parts of slices.
+ghost use mathlib.Core.Path.{_≡_};
+ghost use Prim.Native.Nat.{_≤_};
+ghost use lib.ListN.{length};
+use libc::STDOUT_FILENO;
+use paper::Checked;
+use paper::Refusal;
+
+pub fn text(bytes: &[u8]) {
+    io::write_all(STDOUT_FILENO, bytes);
+}
+
+pub fn number(n: usize) {
+    io::print_decimal(STDOUT_FILENO, n as u64);
+}
+
+// A tab and a number.
+pub fn field(n: usize) {
+    text(b"\t");
+    number(n);
+}
+
+// A refusal: number, side and place.
+pub fn refusal(f: Refusal) {
+    text(b"\trefused");
+    field(f.number as usize);
+    field(f.side as usize);
+    field(f.place);
+}
+
+pub fn checked(c: Checked) {
+    match c {
+        Checked::Passes => text(b"\tpasses"),
+        Checked::Refused(f) => refusal(f),
+    }
+}
+
+// The name of case n of a kind: its letter and two digits.
+fn name(kind: u8, n: usize) -> [u8; 3] {
+    [kind, (48 + n / 10 % 10) as u8, (48 + n % 10) as u8]
+}
+
+// Writes the name of a case, and reads its file into the slice: how many bytes, none where it can't be opened.
+pub fn load(kind: u8, n: usize, bytes: &mut [u8]) -> usize
+    ensures { λ r. ⌜ (r ≤ length (now (bytes .exit))) × (length (now (bytes .exit)) ≡ length (now (bytes .entry))) ⌝ }
+{
+    let path = name(kind, n);
+    text(&path);
+    let fd = os::open_read(&path);
+    if fd < 0 {
+        return 0;
+    }
+    let count = io::read_full(fd, bytes);
+    libc::close(fd);
+    count
+}
+
+// The length n, or one less in case `short`.
+pub fn less(n: usize, case: usize, short: usize) -> usize
+    ensures { λ r. ⌜ r ≤ n ⌝ }
+{
+    if case == short {
+        return if n == 0 { 0 } else { n - 1 };
+    }
+    n
+}
+
+// The part of a slice from a on, at most n long, as far as the slice goes.
+pub fn part<'a>(all: &'a [u16], a: usize, n: usize) -> &'a [u16] {
+    let len = all.len();
+    if len < a {
+        return &all[len..len];
+    }
+    if n <= len - a {
+        return &all[a..a + n];
+    }
+    &all[a..len]
+}
+
+// Is each number of the slice still 9?
+fn kept(numbers: &[u16]) -> bool {
+    let mut i = 0;
+    while i < numbers.len() {
+        if numbers[i] != 9 {
+            return false;
+        }
+        i += 1;
+    }
+    true
+}
+
+// A refusal, which must leave the slices of 9s as they were.
+pub fn refused(f: Refusal, marks: &[u16], rules: &[u16]) {
+    refusal(f);
+    if kept(marks) {
+        if kept(rules) {
+            text(b"\n");
+            return;
+        }
+    }
+    text(b"\tslices changed\n");
+}
