@@ -17,11 +17,7 @@ fn put_rule(rules: &mut [u16], i: usize, kind: u16, left: u16, right: u16, to: u
 {
     let count = rules.len() / paper::WIDTH;
     if i < count {
-        let row = i * paper::WIDTH;
-        rules[row] = kind;
-        rules[row + 1] = left;
-        rules[row + 2] = right;
-        rules[row + 3] = to;
+        rows::put_rule(rules, i * paper::WIDTH, kind, left, right, to);
     }
 }
 

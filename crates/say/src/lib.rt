@@ -1,7 +1,9 @@
 // What the programs of cases share: reading a case's file, writing what it is told, and parts of slices.
 ghost use mathlib.Core.Path.{_≡_};
-ghost use Prim.Native.Nat.{_≤_};
-ghost use lib.ListN.{length};
+ghost use mathlib.Core.Bool.{cond};
+ghost use Prim.Native.Nat.{_-_, _≤_};
+ghost use lib.Dec.{eqb};
+ghost use lib.ListN.{length, take, drop};
 use libc::STDOUT_FILENO;
 use paper::Checked;
 use paper::Refusal;
@@ -57,16 +59,22 @@ pub fn load(kind: u8, n: usize, bytes: &mut [u8]) -> usize
 
 // The length n, or one less in case `short`.
 pub fn less(n: usize, case: usize, short: usize) -> usize
+    ensures { λ r. ⌜ r ≡ cond (eqb case short) (n - 1) n ⌝ }
     ensures { λ r. ⌜ r ≤ n ⌝ }
 {
-    if case == short {
-        return if n == 0 { 0 } else { n - 1 };
+    if case != short {
+        return n;
     }
-    n
+    if n == 0 {
+        return 0;
+    }
+    n - 1
 }
 
 // The part of a slice from a on, at most n long, as far as the slice goes.
-pub fn part<'a>(all: &'a [u16], a: usize, n: usize) -> &'a [u16] {
+pub fn part<'a>(all: &'a [u16], a: usize, n: usize) -> &'a [u16]
+    ensures { λ r. ⌜ now r ≡ take n (drop a (now (all .entry))) ⌝ }
+{
     let len = all.len();
     if len < a {
         return &all[len..len];
