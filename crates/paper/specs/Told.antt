@@ -1,5 +1,5 @@
--- What can be answered, in the paper's own numbering. The answers of the library are enums; `checkTold` here, and `told` in the crate of
--- each other one, says what each of their cases tells.
+-- What can be answered, in the paper's own numbering. The answers of the library that refuse are enums; `checkTold` here, and `told` in the
+-- crate of each other one, says what each of their cases tells.
 use Prim.Native.Nat.{ℕ}
 use mathlib.Core.Path.{_≡_}
 use mathlib.Core.Bool.{Bool, true, false, cond}
