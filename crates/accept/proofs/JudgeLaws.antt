@@ -14,7 +14,7 @@ use Rattle.tree.specs.Nodes as tree
 use Rattle.tree.proofs.Exact as tree-exact
 use Rattle.table.specs.Check.{tableChecked}
 use Rattle.table.specs.Check as table
-use Rattle.table.proofs.Rows.{row-below}
+use Rattle.table.proofs.Range.{states-few, third-zero, to-below, from-below, right-below}
 use Rattle.table.proofs.Exact as table-exact
 use Rattle.accept.specs.Work.{StatesBelow, Earlier, Judgeable}
 use Rattle.accept.specs.Accept.{Judged, badTable, badTree, isAccepted, isRejected, told}
@@ -24,21 +24,12 @@ use Rattle.accept.specs.declared.Answer.the-variants.{Accepted, Rejected
 -- what a sound table and a sound tree say of their numbers
 module _ (L : Limits) (symbols : ℕ) where
   module _ (ms xs : List ℕ) (positive : 0 < L .width) (sound : table.Sound L symbols ms xs) where
-    good : (k : ℕ) → k * L .width + L .width ≤ length xs → table.GoodRule L symbols (length ms) xs k
-    good k h = sound .rulesGood k (row-below positive (length xs) k h)
-
-    pub states-few : length ms ≤ L .states
-    states-few = by-cases (decLe (length ms) (L .states)) (λ h. h) (λ h. absurd (sound .sizeGood (inr (inr (inl (omega arith))))))
-
     pub states-below : StatesBelow (L .width) xs (length ms)
     states-below = record {
-      third = λ k h d. by-cases (ℕ-discrete _ 0) (λ e. e) (λ e. absurd (good k h .shaped (inr (d, e))));
-      to = λ k h. by-cases (decLt _ (length ms)) (λ l. l) (λ l. absurd (good k h .inRange (inl (omega arith))));
-      joins = λ k h e. (
-        by-cases (decLt _ (length ms)) (λ l. l) (λ l. absurd (good k h .inRange (inr (inr (inl ((λ z. omega arith), omega arith)))))),
-        by-cases (decLt _ (length ms)) (λ l. l) (λ l. absurd (good k h .inRange (inr (inr (inr (e, omega arith)))))),
-      );
-      epsilons = λ k h e. by-cases (decLt _ (length ms)) (λ l. l) (λ l. absurd (good k h .inRange (inr (inr (inl ((λ z. omega arith), omega arith))))));
+      third = third-zero L positive sound;
+      to = to-below L positive sound;
+      joins = λ k h e. (from-below L positive sound k h (λ z. omega arith), right-below L positive sound k h e);
+      epsilons = λ k h e. from-below L positive sound k h (λ z. omega arith);
     }
 
   module _ (ns : List ℕ) (sound : tree.Sound L symbols ns) where
@@ -69,7 +60,7 @@ pub decidable-of : (symbols : ℕ) (ms xs ns : List ℕ) → tableChecked limits
 decidable-of symbols ms xs ns t u =
     let a = table-exact.passes-exactly limits symbols ms xs .0 t in
     let b = tree-exact.passes-exactly limits symbols ns .0 u in
-    let few = states-few limits symbols ms xs (omega arith) a in
+    let few = states-few limits a in
     record {
       can = record {
         states = states-wider (omega arith) (states-below limits symbols ms xs (omega arith) a);

@@ -17,6 +17,9 @@ pub data Told : Type 0 where
   -- a tree is accepted or rejected
   accepted : Told
   rejected : Told
+  -- every tree that the sender accepts the receiver accepts; or a tree of so many nodes that it rejects is handed out
+  included : Told
+  witness : (nodes : ℕ) → Told
   -- a table stands at the front of the lent slices
   holds : (symbols states rules : ℕ) → Told
   -- a model text is well-formed: its symbols, its start and the states of its table
@@ -39,6 +42,8 @@ isRefusal (refused n s p) = true
 isRefusal passes = false
 isRefusal accepted = false
 isRefusal rejected = false
+isRefusal included = false
+isRefusal (witness n) = false
 isRefusal (holds y n r) = false
 isRefusal (sizes y s n) = false
 isRefusal (written n) = false
@@ -48,6 +53,8 @@ placeOf (refused n s p) = p
 placeOf passes = 0
 placeOf accepted = 0
 placeOf rejected = 0
+placeOf included = 0
+placeOf (witness n) = 0
 placeOf (holds y n r) = 0
 placeOf (sizes y s n) = 0
 placeOf (written n) = 0

@@ -44,6 +44,16 @@ pub const RANGE: u16 = 5;
 
 pub const REPEAT: u16 = 6;
 
+pub const LEFT_SIDE: u16 = 7;
+
+pub const SORTS: u16 = 8;
+
+pub const REACHES: u16 = 9;
+
+pub const SYMBOL_COUNTS: u16 = 10;
+
+pub const WITNESS_ROOM: u16 = 11;
+
 pub const TREE: u16 = 12;
 
 pub const MODEL_TEXT: u16 = 13;

@@ -2,3 +2,4 @@ pub mod Rules
 pub mod RowTest
 pub mod Check
 pub mod Room
+pub mod Links

@@ -1,5 +1,5 @@
 // A rule table given as slices, and its check: refusals 4, 2, 5 and 6.
-// specs/Rules has rules, evaluation and acceptance, specs/Check what is wrong with a table.
+// specs/Rules has rules, evaluation and acceptance, specs/Check what is wrong with a table, specs/Links the lists that its check keeps.
 ghost use mathlib.Core.Path.{_≡_};
 ghost use Prim.Native.Nat.{_+_, _*_, _/_, _<_, _≤_};
 ghost use lib.ListN.{length};
@@ -9,6 +9,7 @@ ghost use Rattle.paper.specs.First.{Clear, first};
 ghost use Rattle.table.specs.Rules.{Row};
 ghost use Rattle.table.specs.Check.{TooLarge, BadSort, BadMark, Misshapen, OutOfRange, HasRow};
 ghost use Rattle.table.specs.Check.{markFault, ruleFault, tableChecked};
+ghost use Rattle.table.specs.Links.{lists, listOf, Linked};
 use paper::Checked;
 use paper::EPSILON_RULE;
 use paper::JOIN_RULE;
@@ -19,6 +20,11 @@ use paper::Refusal;
 const MOST_SORT: u16 = 3;
 
 const MOST_FINAL: u16 = 1;
+
+// So many lists of rules the check keeps: the fronts stand first in the links, then a link for each rule.
+const LISTS: usize = 64;
+
+const LINKS: usize = LISTS + paper::RULES;
 
 // A refusal at a place.
 fn refuse(number: u16, place: usize) -> Checked
@@ -144,9 +150,52 @@ pub fn has_row(rules: &[u16], n: usize, kind: u16, left: u16, right: u16, to: u1
     false
 }
 
-// The lowest number that is wrong with rule i, or 0.
-fn rule_fault(symbols: u16, states: usize, rules: &[u16], i: usize) -> u16
+// The list of the rules with this left number.
+fn list_of(left: u16) -> usize
+    ensures { λ r. ⌜ r ≡ listOf lists left ⌝ }
+{
+    left as usize % LISTS
+}
+
+// Has one of the first n rules, which are linked, these numbers? Only the list of the left number is walked.
+fn is_repeat(
+    rules: &[u16],
+    links: &[u16],
+    n: usize,
+    kind: u16,
+    left: u16,
+    right: u16,
+    to: u16,
+) -> bool
+    requires { ⌜ (n * limits .width ≤ length (now rules)) × Linked lists limits (now rules) (now links) n ⌝ }
+    ensures { λ r. ⌜ Tells r (HasRow (limits .width) (now (rules .entry)) n kind left right to) ⌝ }
+{
+    let mut next = links[list_of(left)];
+    while next != 0 {
+        let j = next as usize - 1;
+        if is_row(rules, j, kind, left, right, to) {
+            return true;
+        }
+        next = links[LISTS + j];
+    }
+    false
+}
+
+// Puts rule i at the front of its list.
+fn link(rules: &[u16], links: &mut [u16], i: usize)
     requires { ⌜ i * limits .width + limits .width ≤ length (now rules) ⌝ }
+    requires { ⌜ Linked lists limits (now rules) (now links) i ⌝ }
+    ensures { λ _. ⌜ Linked lists limits (now (rules .entry)) (now (links .exit)) (i + 1) ⌝ }
+{
+    let list = list_of(rules[i * paper::WIDTH + 1]);
+    links[LISTS + i] = links[list];
+    links[list] = (i + 1) as u16;
+}
+
+// The lowest number that is wrong with rule i, or 0. The rules before it are linked.
+fn rule_fault(symbols: u16, states: usize, rules: &[u16], links: &[u16], i: usize) -> u16
+    requires { ⌜ i * limits .width + limits .width ≤ length (now rules) ⌝ }
+    requires { ⌜ Linked lists limits (now rules) (now links) i ⌝ }
     ensures { λ r. ⌜ r ≡ ruleFault limits symbols states (now (rules .entry)) i ⌝ }
 {
     let row = i * paper::WIDTH;
@@ -160,7 +209,7 @@ fn rule_fault(symbols: u16, states: usize, rules: &[u16], i: usize) -> u16
     if out_of_range(symbols, states, kind, left, right, to) {
         return paper::RANGE;
     }
-    if has_row(rules, i, kind, left, right, to) {
+    if is_repeat(rules, links, i, kind, left, right, to) {
         return paper::REPEAT;
     }
     0
@@ -168,16 +217,19 @@ fn rule_fault(symbols: u16, states: usize, rules: &[u16], i: usize) -> u16
 
 // Checks the rules in order, over so many symbols and states.
 fn check_rules(symbols: u16, states: usize, rules: &[u16]) -> Checked
+    requires { ⌜ length (now rules) / limits .width ≤ limits .rules ⌝ }
     ensures { λ r. ⌜ checkTold r ≡ first (ruleFault limits symbols states (now (rules .entry)))
         (length (now (rules .entry)) / limits .width) passes ⌝ }
 {
     let rows = rules.len() / paper::WIDTH;
+    let mut links = [0u16; LINKS];
     let mut i = 0;
     while i < rows {
-        let fault = rule_fault(symbols, states, rules, i);
+        let fault = rule_fault(symbols, states, rules, &links, i);
         if fault != 0 {
             return refuse(fault, i + 1);
         }
+        link(rules, &mut links, i);
         i += 1;
     }
     Checked::Passes

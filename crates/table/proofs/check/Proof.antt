@@ -6,6 +6,7 @@ use borrow.Author.Needs.{needs}
 use Rattle.paper.specs.Limits.{limits}
 use Rattle.paper.specs.Told.{checkTold}
 use Rattle.table.proofs.Exact.{refuse-size, refuse-length, refuse-mark, to-rules}
+use Rattle.table.proofs.LinksLaws.{few-rules}
 use Rattle.table.proofs.check.Statement.{statement}
 use Rattle.table.proofs.check.Tie as tie
 
@@ -44,7 +45,7 @@ returns-3 c =
     (c .before .before .first-bad-mark .result) (c .before .if3 .taken) (c .before .before .first-bad-mark .ensures .1 (c .before .if3 .taken)) (c .before .before .first-bad-mark .ensures .0))
 
 check-rules-requires : tie.Need-check-rules-requires
-check-rules-requires c κs = search needs
+check-rules-requires c κs = few-rules limits _ _ _ (c .before .before .before .before .too-large .ensures .no (c .before .before .before .if1 .left))
 
 returns-4 : tie.Need-returns-4
 returns-4 c =

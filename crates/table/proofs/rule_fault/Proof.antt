@@ -47,31 +47,31 @@ misshapen-requires : tie.Need-misshapen-requires
 misshapen-requires c κs = search needs
 
 returns : tie.Need-returns
-returns c = sym (rule-fault limits (c .before .before .before .before .before .before .before .args .symbols) (c .before .before .before .before .before .before .before .args .states) (now (c .before .before .before .before .before .before .before .args .rules)) (c .before .before .before .before .before .before .before .args .i) (shape (c .before .misshapen .ensures .yes (c .if1 .taken))))
+returns c = sym (rule-fault limits (c .before .before .before .before .before .before .before .before .args .symbols) (c .before .before .before .before .before .before .before .before .args .states) (now (c .before .before .before .before .before .before .before .before .args .rules)) (c .before .before .before .before .before .before .before .before .args .i) (shape (c .before .misshapen .ensures .yes (c .if1 .taken))))
 
 out-of-range-requires : tie.Need-out-of-range-requires
 out-of-range-requires c κs = search needs
 
 returns-2 : tie.Need-returns-2
 returns-2 c =
-    sym (rule-fault limits (c .before .before .before .before .before .before .before .before .before .args .symbols) (c .before .before .before .before .before .before .before .before .before .args .states) (now (c .before .before .before .before .before .before .before .before .before .args .rules)) (c .before .before .before .before .before .before .before .before .before .args .i)
+    sym (rule-fault limits (c .before .before .before .before .before .before .before .before .before .before .args .symbols) (c .before .before .before .before .before .before .before .before .before .before .args .states) (now (c .before .before .before .before .before .before .before .before .before .before .args .rules)) (c .before .before .before .before .before .before .before .before .before .before .args .i)
     (range (c .before .before .before .misshapen .ensures .no (c .before .before .if1 .left)) (c .before .out-of-range .ensures .yes (c .if2 .taken))))
 
-has-row-requires : tie.Need-has-row-requires
-has-row-requires c κs = search needs
+is-repeat-requires : tie.Need-is-repeat-requires
+is-repeat-requires c κs = search needs
 
 returns-3 : tie.Need-returns-3
 returns-3 c =
-    sym (rule-fault limits (c .before .before .before .before .before .before .before .before .before .before .before .args .symbols) (c .before .before .before .before .before .before .before .before .before .before .before .args .states) (now (c .before .before .before .before .before .before .before .before .before .before .before .args .rules)) (c .before .before .before .before .before .before .before .before .before .before .before .args .i)
-    (again (c .before .before .before .before .before .misshapen .ensures .no (c .before .before .before .before .if1 .left)) (c .before .before .before .out-of-range .ensures .no (c .before .before .if2 .left)) (c .before .has-row .ensures .yes (c .if3 .taken))))
+    sym (rule-fault limits (c .before .before .before .before .before .before .before .before .before .before .before .before .args .symbols) (c .before .before .before .before .before .before .before .before .before .before .before .before .args .states) (now (c .before .before .before .before .before .before .before .before .before .before .before .before .args .rules)) (c .before .before .before .before .before .before .before .before .before .before .before .before .args .i)
+    (again (c .before .before .before .before .before .misshapen .ensures .no (c .before .before .before .before .if1 .left)) (c .before .before .before .out-of-range .ensures .no (c .before .before .if2 .left)) (c .before .is-repeat .ensures .yes (c .if3 .taken))))
 
 returns-4 : tie.Need-returns-4
 returns-4 c =
-    sym (rule-fault limits (c .before .before .before .before .before .before .before .before .before .before .before .args .symbols) (c .before .before .before .before .before .before .before .before .before .before .before .args .states) (now (c .before .before .before .before .before .before .before .before .before .before .before .args .rules)) (c .before .before .before .before .before .before .before .before .before .before .before .args .i)
+    sym (rule-fault limits (c .before .before .before .before .before .before .before .before .before .before .before .before .args .symbols) (c .before .before .before .before .before .before .before .before .before .before .before .before .args .states) (now (c .before .before .before .before .before .before .before .before .before .before .before .before .args .rules)) (c .before .before .before .before .before .before .before .before .before .before .before .before .args .i)
     (none (record {
       shaped = c .before .before .before .before .before .misshapen .ensures .no (c .before .before .before .before .if1 .left);
       inRange = c .before .before .before .out-of-range .ensures .no (c .before .before .if2 .left);
-      new = c .before .has-row .ensures .no (c .if3 .left);
+      new = c .before .is-repeat .ensures .no (c .if3 .left);
     })))
 
 pub rule-fault-spec : {M : Type 1} → statement M
@@ -94,6 +94,6 @@ rule-fault-spec =
     returns
     out-of-range-requires
     returns-2
-    has-row-requires
+    is-repeat-requires
     returns-3
     returns-4)
