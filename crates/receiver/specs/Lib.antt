@@ -1,1 +1,3 @@
 pub mod Receiver
+pub mod Numbers
+pub mod Check
