@@ -1,0 +1,4 @@
+pub mod Factor
+pub mod Include
+pub mod Decide
+pub mod Tables
