@@ -1,0 +1,6 @@
+pub mod Inclusion
+pub mod Trace
+pub mod Prepare
+pub mod Search
+pub mod Steps
+pub mod Write
