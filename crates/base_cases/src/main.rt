@@ -1,6 +1,5 @@
 // Cases of tables, trees, rule texts and acceptance at the edges of their limits, each a file of data/, and what each is told: the
 // file stdout beside src/ has what it must be, and docs/CASES.md what each case is.
-mod numbers;
 mod slices;
 mod texts;
 

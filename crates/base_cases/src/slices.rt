@@ -1,5 +1,4 @@
 // A table and a tree in numbers: the symbols, how many marks, the marks, how many rule numbers, these, and the nodes.
-use crate::numbers;
 use accept::Answer;
 
 // Number a of the slice, or 0.
@@ -37,6 +36,6 @@ pub(crate) fn judge(n: usize) {
     let mut bytes = [0u8; 16384];
     let mut all = [0u16; 16384];
     let length = say::load(b's', n, &mut bytes);
-    let count = numbers::parse(&bytes[..length], &mut all);
+    let count = say::numbers(&bytes[..length], &mut all);
     judge_numbers(say::part(&all, 0, count));
 }

@@ -1,10 +1,11 @@
-// What the programs of cases share: reading a case's file, writing what it is told, and parts of slices.
+// What the programs of cases share: reading a case's file and its numbers, writing what it is told, and parts of slices.
 ghost use mathlib.Core.Path.{_≡_};
 ghost use mathlib.Core.Bool.{cond};
-ghost use Prim.Native.Nat.{_-_, _≤_};
+ghost use Prim.Native.Nat.{_-_, _≤_, _<_};
 ghost use lib.Dec.{eqb};
 ghost use lib.ListN.{length, take, drop};
 use libc::STDOUT_FILENO;
+use lines::Number;
 use paper::Checked;
 use paper::Refusal;
 
@@ -97,14 +98,68 @@ fn kept(numbers: &[u16]) -> bool {
     true
 }
 
+// Says so where a slice of 9s has changed.
+pub fn changed(numbers: &[u16]) {
+    if !kept(numbers) {
+        text(b"\tslice changed");
+    }
+}
+
 // A refusal, which must leave the slices of 9s as they were.
 pub fn refused(f: Refusal, marks: &[u16], rules: &[u16]) {
     refusal(f);
-    if kept(marks) {
-        if kept(rules) {
-            text(b"\n");
-            return;
-        }
+    changed(marks);
+    changed(rules);
+    text(b"\n");
+}
+
+// How far the bytes are read, and how many numbers there are.
+struct Cursor {
+    at: usize,
+    count: usize,
+}
+
+// Puts v behind the first `count` numbers of the slice, if it goes so far, and answers how many there are then.
+fn push(out: &mut [u16], count: usize, v: u16) -> usize
+    requires { ⌜ count ≤ length (now out) ⌝ }
+    ensures { λ r. ⌜ (r ≤ length (now (out .exit))) × (length (now (out .exit)) ≡ length (now (out .entry))) ⌝ }
+{
+    if count < out.len() {
+        out[count] = v;
+        return count + 1;
     }
-    text(b"\tslices changed\n");
+    count
+}
+
+// Goes on by one number, or by one byte that is none.
+fn step(bytes: &[u8], at: usize, out: &mut [u16], count: usize) -> Cursor
+    requires { ⌜ (at < length (now bytes)) × (count ≤ length (now out)) ⌝ }
+    ensures { λ r. ⌜ (at < r .at) × (r .count ≤ length (now (out .exit))) × (length (now (out .exit)) ≡ length (now (out .entry))) ⌝ }
+{
+    let found = lines::read_number(bytes, at);
+    let Number::Value(a, end) = found else {
+        return Cursor { at: at + 1, count };
+    };
+    if end <= at {
+        return Cursor { at: at + 1, count };
+    }
+    let more = push(out, count, a);
+    Cursor {
+        at: end,
+        count: more,
+    }
+}
+
+// Puts the numbers of the bytes, decimal and parted by any other bytes, into the slice, as far as it goes, and answers how many.
+pub fn numbers(bytes: &[u8], out: &mut [u16]) -> usize
+    ensures { λ r. ⌜ (r ≤ length (now (out .exit))) × (length (now (out .exit)) ≡ length (now (out .entry))) ⌝ }
+{
+    let mut at = 0;
+    let mut count = 0;
+    while at < bytes.len() {
+        let s = step(bytes, at, out, count);
+        at = s.at;
+        count = s.count;
+    }
+    count
 }

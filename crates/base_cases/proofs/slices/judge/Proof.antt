@@ -13,14 +13,14 @@ load-requires c κs = search needs
 array-share-prefix-bytes : tie.Need-array-share-prefix-bytes
 array-share-prefix-bytes c = search needs
 
-slice-aggregate-parse : tie.Need-slice-aggregate-parse
-slice-aggregate-parse c = simp length-take (omega arith)
+slice-aggregate-numbers : tie.Need-slice-aggregate-numbers
+slice-aggregate-numbers c = simp length-take (omega arith)
 
-slice-aggregate-parse-2 : tie.Need-slice-aggregate-parse-2
-slice-aggregate-parse-2 c = search needs
+slice-aggregate-numbers-2 : tie.Need-slice-aggregate-numbers-2
+slice-aggregate-numbers-2 c = search needs
 
-parse-requires : tie.Need-parse-requires
-parse-requires c κs = search needs
+numbers-requires : tie.Need-numbers-requires
+numbers-requires c κs = search needs
 
 slice-aggregate-part : tie.Need-slice-aggregate-part
 slice-aggregate-part c = search needs
@@ -41,9 +41,9 @@ judge-spec =
     slice-aggregate-load
     load-requires
     array-share-prefix-bytes
-    slice-aggregate-parse
-    slice-aggregate-parse-2
-    parse-requires
+    slice-aggregate-numbers
+    slice-aggregate-numbers-2
+    numbers-requires
     slice-aggregate-part
     part-requires
     judge-numbers-requires

@@ -1,12 +1,12 @@
 use mathlib.Core.Path.{_≡_}
-use Prim.Native.Nat.{_-_}
+use Prim.Native.Nat.{_-_, _≤_}
 use lib.ListN.{length}
 use borrow.Author.Needs.{needs}
-use Rattle.base_cases.proofs.numbers.parse.Statement.{statement}
-use Rattle.base_cases.proofs.numbers.parse.Tie as tie
+use Rattle.say.proofs.numbers.Statement.{statement}
+use Rattle.say.proofs.numbers.Tie as tie
 
 abbrev Inv-loop : tie.InvT-loop
-Inv-loop bytes out₀ at₀ count₀ out at count = length out ≡ length out₀
+Inv-loop bytes out₀ at₀ count₀ out at count = (count ≤ length out) × (length out ≡ length out₀)
 
 abbrev μ-loop : tie.MeasureT-loop
 μ-loop bytes out₀ at₀ count₀ out at count = length bytes - at
@@ -29,7 +29,7 @@ same-length c = search needs
 returns : tie.Need-returns Inv-loop μ-loop
 returns c = search needs
 
-pub parse-spec : {M : Type 1} → statement M
-parse-spec =
+pub numbers-spec : {M : Type 1} → statement M
+numbers-spec =
     tie.close
     (tie.spec Inv-loop μ-loop loop-holds step-requires loop-less loop-again same-length returns)
