@@ -1,11 +1,12 @@
 -- What the two checks say of the tables, and that the work memory is then prepared. Assumes nothing.
-use Prim.Native.Nat.{ℕ, zero, suc, _+_, _*_, _-_, _≤_}
-use mathlib.Core.Path.{_≡_, refl, sym, ap, _∙_}
+use Prim.Native.Nat.{ℕ, _+_, _*_, _-_, _≤_}
+use mathlib.Core.Path.{_≡_, sym, ap, _∙_}
 use mathlib.Core.List.{List}
 use native.Mathlib.Nat.{mul-le-mul}
 use native.Mathlib.Omega.{arith}
 use lib.ListN.{length, replicate, length-replicate}
 use lib.Seq.{getD-drop}
+use Rattle.bits.proofs.Sets.{zeros-at}
 use Rattle.paper.specs.Limits.{limits, at}
 use Rattle.paper.specs.Told.{checkTold}
 use Rattle.paper.specs.declared.Refusal.{Refusal}
@@ -27,11 +28,6 @@ module _ {symbols : ℕ} {ms xs : List ℕ} {t : Checked} (e : checkTold t ≡ t
 
   pub table-good : t ≡ Passes → Sound limits symbols ms xs
   table-good d = passes-exactly limits symbols ms xs .0 (sym e ∙ ap checkTold d)
-
-zeros-at : (n i : ℕ) → at (replicate n 0) i ≡ 0
-zeros-at zero i = refl
-zeros-at (suc n) zero = refl
-zeros-at (suc n) (suc i) = zeros-at n i
 
 module _ {symbols : ℕ} {ms xs os os′ : List ℕ} {t : Checked} (f : Factored limits symbols ms xs os os′ (checkTold t)) where
   pub factor-refused : (r : Refusal) → t ≡ Refused r → ReceiverRefused limits symbols ms xs (r .number) (r .side) (r .place)

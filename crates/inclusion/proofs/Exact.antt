@@ -6,7 +6,7 @@ use mathlib.Core.Path.{_≡_, refl, sym, ap, _∙_}
 use mathlib.Core.Logic.{_↔_, _⊎_, inl, inr, ⊎-elim}
 use mathlib.Core.List.{List}
 use native.Mathlib.Omega.{arith}
-use lib.ListN.{length, take}
+use lib.ListN.{length, take, List·getD-eq-default}
 use lib.Seq.{length-take-le}
 use Rattle.paper.specs.Limits.{Limits}
 use Rattle.paper.specs.Told.{Told, refused, included, witness}
@@ -46,7 +46,7 @@ module _ (L : Limits) (A B : Lent) where
   receiver-faulty r g = refused-not-passes (receiver-unique L (B .symbols) (B .marks) (B .rules) _ _ (isRefused r) (isPassed (g .0) (g .1)))
 
   module _ (room : ℕ) where
-    refused-unique : {n s p n′ s′ p′ : ℕ} → IncludeRefused L A B room n s p → IncludeRefused L A B room n′ s′ p′ → refused n s p ≡ refused n′ s′ p′
+    pub refused-unique : {n s p n′ s′ p′ : ℕ} → IncludeRefused L A B room n s p → IncludeRefused L A B room n′ s′ p′ → refused n s p ≡ refused n′ s′ p′
     refused-unique (ofSender x) (ofSender y) =
         with-side 1 (sym (table.refused-exactly L (A .symbols) (A .marks) (A .rules) _ _ _ .1 x) ∙ table.refused-exactly L (A .symbols) (A .marks) (A .rules) _ _ _ .1 y)
     refused-unique (ofSender x) (ofReceiver g y) = absurd (sender-faulty x g)
@@ -67,7 +67,7 @@ module _ (L : Limits) (A B : Lent) where
     refused-unique (noRoom g r e l) (noRoom h s d k) = refl
 
     -- tables that can be compared are not refused
-    refused-not : {n s p : ℕ} → IncludeRefused L A B room n s p → Comparable L A B room → ⊥
+    pub refused-not : {n s p : ℕ} → IncludeRefused L A B room n s p → Comparable L A B room → ⊥
     refused-not (ofSender x) c = sender-faulty x (c .sender)
     refused-not (ofReceiver g x) c = receiver-faulty x (c .receiver)
     refused-not (symbolCounts g r e) c = e (c .symbols)
@@ -168,6 +168,15 @@ include-unique L A B ws ws′ ws″ a b x y =
     (told-unique-but-witness L A B ws ws′ ws″ (told a) (told b) x y)
 
 -- as many nodes as are told stand at the front of the slice
-pub witness-nodes : {L : Limits} {A B : Lent} {ws ws′ : List ℕ} {k : ℕ} → Comparable L A B (length ws) → Witnessed L A B ws ws′ k
-    → length (take (2 * k) ws′) ≡ 2 * k
-witness-nodes {ws′ = ws′} {k = k} c w = length-take-le (2 * k) ws′ (omega (arith, c .enough, w .few, w .size))
+pub witness-nodes : {L : Limits} {A B : Lent} {ws ws′ : List ℕ} {k : ℕ} → Witnessed L A B ws ws′ k → length (take (2 * k) ws′) ≡ 2 * k
+witness-nodes {ws′ = ws′} {k = k} w = length-take-le (2 * k) ws′ (w .inside)
+
+-- a table of 0 states accepts nothing: as a sender it is included in every receiver, as a receiver it takes only senders that accept nothing
+empty-accepts : (L : Limits) (T : Lent) (t : Tree) → length (T .marks) ≡ 0 → AcceptedBy L T t → ⊥
+empty-accepts L T t e a = omega (arith, a .final, List·getD-eq-default {A = ℕ} (T .marks) 0 {n = a .state} (omega arith))
+
+pub no-states-included : (L : Limits) (A B : Lent) → length (A .marks) ≡ 0 → Includes L A B
+no-states-included L A B e t a = absurd (empty-accepts L A t e a)
+
+pub no-states-receives : (L : Limits) (A B : Lent) → length (B .marks) ≡ 0 → Includes L A B ↔ ((t : Tree) → ¬ AcceptedBy L A t)
+no-states-receives L A B e = (λ i t a. empty-accepts L B t e (i t a), λ n t a. absurd (n t a))

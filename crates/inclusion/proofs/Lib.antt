@@ -1,7 +1,6 @@
 pub mod Exact
 pub mod PrepareLaws
 pub mod SearchLaws
-pub mod StepLaws
 pub mod TraceLaws
 pub mod WantLaws
 pub mod WitnessLaws

@@ -1,7 +1,7 @@
 -- With the index built behind the numbers of the receiver's states, the work memory is as the search wants it. Assumes nothing.
 use Prim.Native.Nat.{ℕ, _+_, _*_, _-_, _/_, _≤_, _<_}
 use mathlib.Core.Path.{_≡_, sym, ap, _∙_, subst}
-use mathlib.Core.Logic.{_⊎_, by-cases, ⊎-elim}
+use mathlib.Core.Logic.{by-cases, ⊎-elim}
 use mathlib.Core.List.{List, _++_, append-nil}
 use native.Mathlib.Decide.{decLt}
 use native.Mathlib.Nat.{mul-le-mul}
@@ -23,7 +23,9 @@ use Rattle.inclusion.specs.Prepare.{Laid, Prepared, workSize}
 use Rattle.tree.specs.Tree.{Tree}
 use Rattle.table.specs.Rules.{RulesOf, Accepts}
 use Rattle.inclusion.specs.Trace.{Failed}
-use Rattle.inclusion.specs.Search.{Rules, memoryOf, Searchable, Found, allPass, oneFails}
+use Rattle.pairs.specs.Work.{memoryOf}
+use Rattle.moves.specs.Receiving.{Rules}
+use Rattle.inclusion.specs.Search.{Searchable, Found, allPass, oneFails}
 use Rattle.inclusion.specs.declared.search.Outcome.{Outcome}
 use Rattle.inclusion.specs.declared.search.Outcome.the-variants.{Included, Failing}
 

@@ -212,6 +212,7 @@ module _ {b N : ℕ} (m : Memory) (f : List ℕ) {m′ : Memory} {ws ws′ : Lis
       let n = nodes-take ws′ (w .nodes) in
       record {
         few = omega (arith, n .count, t .few);
+        inside = omega (arith, w .size, w .nodes .count, t .few);
         size = w .size;
         rest = w .rest;
         tree = list-sound;

@@ -66,6 +66,7 @@ ChildOf ws v u = (v < u) × ((at ws (2 * u + 1) ≢ leafMark) × ((at ws (2 * u)
 -- the witness slice ws is then ws′: k nodes at its front are a tree that the sender accepts and the receiver rejects
 pub record Witnessed (L : Limits) (A B : Lent) (ws ws′ : List ℕ) (k : ℕ) : Type 0 where
   pub few : k ≤ mostNodes A B
+  pub inside : 2 * k ≤ length ws′
   pub size : length ws′ ≡ length ws
   pub rest : drop (2 * k) ws′ ≡ drop (2 * k) ws
   pub tree : nodes.Sound L (A .symbols) (take (2 * k) ws′)

@@ -1,7 +1,7 @@
 // The inclusion test of two tables: is every tree that the sender accepts accepted by the receiver? If not, a tree that is not is written
 // to the lent witness slice. Refusals: the sender's table, the receiver's table, 7, 8, 9, 10, 11.
-// specs/Inclusion has what the answer tells; search.rt finds the answer, witness.rt writes the tree; specs/Search, Steps, Trace and Write
-// have what their functions do to the work memory.
+// specs/Inclusion has what the answer tells; search.rt finds the answer, by the steps of crate steps, witness.rt writes the tree;
+// specs/Search, Trace and Write have what their functions do to the work memory.
 ghost use mathlib.Core.Path.{_≡_};
 ghost use Prim.Native.Nat.{_≤_};
 ghost use lib.ListN.{length};
@@ -19,12 +19,7 @@ mod witness;
 // The most pairs, and so many numbers has the work memory: those of the receiver's states, the index of its join rules, and four a pair.
 const PAIRS: usize = paper::STATES * (paper::STATES + 1);
 
-const WORK: usize = factorized::NUMBERS + paper::STATES + 1 + paper::RULES + 4 * PAIRS;
-
-// Whose a refusal is.
-const SENDER: u16 = 1;
-
-const RECEIVER: u16 = 2;
+const WORK: usize = factorized::NUMBERS + paper::STATES + 1 + paper::RULES + pairs::PARTS * PAIRS;
 
 pub enum Answer {
     Included,
@@ -78,10 +73,12 @@ fn compare(
     work: &mut [u16],
     witness: &mut [u16],
 ) -> Answer
-    requires { ⌜ Comparable limits (lent symbols (now «sender_marks») (now «sender_rules»)) (lent symbols (now «receiver_marks») (now «receiver_rules»))
-        (length (now witness)) × Prepared (now «receiver_marks») (now «receiver_rules») (now work) ⌝ }
+    requires { ⌜ Comparable limits (lent symbols (now «sender_marks») (now «sender_rules»))
+        (lent symbols (now «receiver_marks») (now «receiver_rules»)) (length (now witness))
+        × Prepared (now «receiver_marks») (now «receiver_rules») (now work) ⌝ }
     ensures { λ r. ⌜ Answered limits (lent symbols (now («sender_marks» .entry)) (now («sender_rules» .entry)))
-        (lent symbols (now («receiver_marks» .entry)) (now («receiver_rules» .entry))) (now (witness .entry)) (now (witness .exit)) (told r) ⌝ }
+        (lent symbols (now («receiver_marks» .entry)) (now («receiver_rules» .entry)))
+        (now (witness .entry)) (now (witness .exit)) (told r) ⌝ }
 {
     let z = lay(
         sender_marks.len(),
@@ -108,15 +105,16 @@ pub fn include(
     witness: &mut [u16],
 ) -> Answer
     ensures { λ r. ⌜ Answered limits (lent «sender_symbols» (now («sender_marks» .entry)) (now («sender_rules» .entry)))
-        (lent «receiver_symbols» (now («receiver_marks» .entry)) (now («receiver_rules» .entry))) (now (witness .entry)) (now (witness .exit)) (told r) ⌝ }
+        (lent «receiver_symbols» (now («receiver_marks» .entry)) (now («receiver_rules» .entry)))
+        (now (witness .entry)) (now (witness .exit)) (told r) ⌝ }
 {
     if let Checked::Refused(f) = table::check(sender_symbols, sender_marks, sender_rules) {
-        return refuse_side(f, SENDER);
+        return refuse_side(f, paper::SENDER);
     }
     let mut work = [0u16; WORK];
     let checked = factorized::factor(receiver_symbols, receiver_marks, receiver_rules, &mut work);
     if let Checked::Refused(f) = checked {
-        return refuse_side(f, RECEIVER);
+        return refuse_side(f, paper::RECEIVER);
     }
     if sender_symbols != receiver_symbols {
         return refuse(paper::SYMBOL_COUNTS);

@@ -39,8 +39,8 @@ fn read_row(base: usize, n: usize, work: &[u16], j: usize) -> Entry
     let pair = get(work, base + n, j);
     let c = pair as usize;
     let mark = get(work, base, c);
-    let left = get(work, base + 2 * n, c);
-    let right = get(work, base + 3 * n, c);
+    let left = get(work, base + pairs::FIRSTS * n, c);
+    let right = get(work, base + pairs::SECONDS * n, c);
     Entry {
         pair,
         mark,
@@ -126,7 +126,7 @@ fn write_row(base: usize, n: usize, work: &mut [u16], out: &mut [u16], j: usize,
         return m;
     }
     let right = e.right;
-    let lefts = base + 2 * n;
+    let lefts = base + pairs::FIRSTS * n;
     let c = lefts + e.pair as usize;
     let x = part(work, lefts, right, e.left);
     if right == pairs::EPSILON {

@@ -11,7 +11,6 @@ use lib.Seq.{getD-drop, ext-getD}
 use Rattle.paper.specs.Limits.{at}
 use Rattle.paper.specs.Tests.{dec-or}
 use Rattle.joins.specs.Index.{Listed, Indexed, mostNumber, indexSize, NoIndexRoom, Holds, Built}
-use Rattle.joins.proofs.IndexLaws.{begins-behind}
 
 noRoom? : (rules n size : ℕ) → Dec (NoIndexRoom rules n size)
 noRoom? rules n size = dec-or (decLt size (indexSize rules n)) (decLt mostNumber (indexSize rules n))
@@ -113,12 +112,3 @@ module _ {w : ℕ} {xs : List ℕ} {n : ℕ} {o : List ℕ} {r s : ℕ} {is js :
   build-unique x y = by-cases (noRoom? (length xs / w) n (length o))
       (λ h. (x .without h .0 ∙ sym (y .without h .0), x .without h .1 ∙ sym (y .without h .1)))
       (λ d. index-unique (x .with d) (y .with d))
-
--- 0 is told exactly if there is no room
-pub no-room-exactly : {w : ℕ} {xs : List ℕ} {n : ℕ} {o : List ℕ} {r : ℕ} {is : List ℕ} → Built w xs n o r is
-    → (NoIndexRoom (length xs / w) n (length o) → r ≡ 0) × (r ≡ 0 → NoIndexRoom (length xs / w) n (length o))
-no-room-exactly {w} {xs} {n} {o} {r} {is} x = (
-  λ h. x .without h .0,
-  λ e. by-cases (noRoom? (length xs / w) n (length o)) (λ h. h)
-      (λ d. absurd (omega (arith, x .with d .counts, begins-behind (x .with d .indexed) n (omega arith)))),
-)

@@ -9,9 +9,6 @@ ghost use Rattle.joins.specs.Index.{NoIndexRoom, Built};
 ghost use Rattle.joins.specs.Target.{JoinOf, Finds};
 ghost use Rattle.joins.specs.Work.{RowRoom, PutRow, ListRoom, PutList};
 
-// The greatest number that 16 bits hold.
-const MOST_NUMBER: usize = 65535;
-
 // The lower of two numbers.
 fn lower(a: usize, b: usize) -> usize
     ensures { λ r. ⌜ r ≡ min a b ⌝ }
@@ -26,10 +23,10 @@ fn lower(a: usize, b: usize) -> usize
 fn lacks_room(rules: usize, states: usize, size: usize) -> bool
     ensures { λ r. ⌜ Tells r (NoIndexRoom rules states size) ⌝ }
 {
-    if MOST_NUMBER <= states {
+    if paper::MOST_NUMBER <= states {
         return true;
     }
-    if MOST_NUMBER - states <= rules {
+    if paper::MOST_NUMBER - states <= rules {
         return true;
     }
     size < states + 1 + rules

@@ -1,2 +1,4 @@
 pub mod MemoryLaws
 pub mod StateLaws
+pub mod WorkLaws
+pub mod Unique

@@ -30,9 +30,6 @@ code-inside n p q s h k = omega (arith, mul-le-mul-right {m = suc p} {n = s} (n 
 pub code-split : (n c : ℕ) → (c % (n + 1) ≤ n) × (c ≡ code n (c / (n + 1)) (c % (n + 1)))
 code-split n c = let m = mod-lt c {m = n + 1} (omega arith) in (omega arith, sym (div-add-mod' c (n + 1)))
 
-pub taken-is : (f : List ℕ) (c : ℕ) → Taken f c → Marked f c
-taken-is f c h = omega arith
-
 pub listed-inside : {N : ℕ} {m : Memory} {k : ℕ} → Queued N m k → (j : ℕ) → j < k → at (m .queue) j < N
 listed-inside {m = m} s j h = let z = marked-inside (m .found) (at (m .queue) j) (s .listed j h) in omega (arith, s .found-size)
 
@@ -129,9 +126,6 @@ module _ {S B : Rule → Type 0} {n : ℕ} where
 
   pub grew-marked : {N : ℕ} {m m′ : Memory} {k k′ : ℕ} → Grew S B n N m k m′ k′ → (c : ℕ) → Marked (m .found) c → Marked (m′ .found) c
   grew-marked g c h = rw (g .kept c h) h
-
-  pub grew-taken : {N : ℕ} {m m′ : Memory} {k k′ : ℕ} → Grew S B n N m k m′ k′ → (c : ℕ) → Taken (m .found) c → Taken (m′ .found) c
-  grew-taken g c h = g .kept c (omega arith) ∙ h
 
 -- what goes by some rules goes by more
 module _ {S T B : Rule → Type 0} {n : ℕ} (more : (r : Rule) → S r → T r) where

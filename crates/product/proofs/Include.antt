@@ -13,7 +13,7 @@ use Rattle.table.proofs.Evaluate.{Base, baseLeaf, baseJoin, has-reach, has-of-b
 use Rattle.receiver.specs.Receiver.{MayLeft, MayRight}
 use Rattle.receiver.specs.Numbers.{OneOf, Ends}
 use Rattle.product.specs.Moves.{Move, LeafTo, JoinTo}
-use Rattle.product.proofs.Factor.{SingleReach, Factorized, base-unique, has-from-base}
+use Rattle.product.proofs.Factor.{SingleReach, Factorized, has-from-base}
 
 -- the rules name only states below n
 pub record Bounded (R : Rule → Type 0) (n : ℕ) : Type 0 where
@@ -85,9 +85,6 @@ module _ {B : Rule → Type 0} {m : List ℕ} {n : ℕ} (f : Factorized B m) (bd
 
   pub leafTo-unique : (a q r : ℕ) → LeafTo B n a q → LeafTo B n a r → q ≡ r
   leafTo-unique a q r = either-unique (f .leaf-single a)
-
-  pub baseOr-unique : (t : Tree) (q r : ℕ) → BaseOr B n t q → BaseOr B n t r → q ≡ r
-  baseOr-unique t q r = either-unique (base-unique f t)
 
   -- whatever state a tree has is reached from its base state
   pub reach-of-has : {t : Tree} {x q : ℕ} → BaseOr B n t x → Has B t q → Reach B x q

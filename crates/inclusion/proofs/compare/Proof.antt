@@ -1,3 +1,4 @@
+-- `inclusion::compare` meets its contract: the index is built behind the numbers, and the search's outcome is told or its tree written.
 use mathlib.Core.Path.{refl}
 use denote.Ref.{now}
 use native.Mathlib.Omega.{arith}

@@ -1,3 +1,4 @@
+-- `inclusion::include` meets its contract: each refusal in its order, then what the comparison tells.
 use mathlib.Core.Path.{refl, sym}
 use denote.Ref.{now}
 use native.Mathlib.Omega.{arith}

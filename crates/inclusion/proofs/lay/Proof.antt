@@ -1,3 +1,4 @@
+-- `inclusion::lay` meets its contract: the sums are small.
 use Prim.Native.Nat.{_+_, _≤_}
 use native.Mathlib.Nat.{mul-le-mul}
 use native.Mathlib.Omega.{arith}

@@ -1,3 +1,4 @@
+-- `pairs::is_final` meets its contract: a state behind the marks is not final.
 use denote.Ref.{now}
 use mathlib.Core.Path.{_≡_}
 use native.Mathlib.Omega.{arith}

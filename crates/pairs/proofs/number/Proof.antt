@@ -1,3 +1,4 @@
+-- `pairs::number` meets its contract: two 16 bit numbers multiplied fit.
 use Prim.Native.Nat.{_+_, _≤_}
 use native.Mathlib.Nat.{mul-le-mul}
 use native.Mathlib.Omega.{arith}

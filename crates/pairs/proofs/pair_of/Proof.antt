@@ -1,3 +1,4 @@
+-- `pairs::pair_of` meets its contract.
 use Prim.Native.Nat.{_+_}
 use native.Mathlib.Nat.{div-le-self, mod-le}
 use native.Mathlib.Omega.{arith}
@@ -15,10 +16,10 @@ rem-q : tie.Need-rem-q
 rem-q c = search needs
 
 cast-t7 : tie.Need-cast-t7
-cast-t7 c = omega (arith, div-le-self (c .args .c) (c .args .n + 1), mod-le (c .args .c) (c .args .n + 1))
+cast-t7 c = omega (arith, div-le-self (c .args .c) (c .args .n + 1))
 
 cast-t9 : tie.Need-cast-t9
-cast-t9 c = omega (arith, div-le-self (c .args .c) (c .args .n + 1), mod-le (c .args .c) (c .args .n + 1))
+cast-t9 c = omega (arith, mod-le (c .args .c) (c .args .n + 1))
 
 returns : tie.Need-returns
 returns c = search needs
