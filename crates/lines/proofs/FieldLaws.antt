@@ -1,5 +1,5 @@
 -- The numbers of a line that was written are read, and what was read of a line is written as that line.
-use Prim.Native.Nat.{ℕ, zero, suc, _+_, _-_, _/_, _%_, _≤_}
+use Prim.Native.Nat.{ℕ, zero, suc, _+_, _/_, _%_, _≤_}
 use mathlib.Core.Path.{_≡_, refl, ap, sym, _∙_}
 use mathlib.Core.List.{List, [], _∷_, _++_, append-assoc}
 use mathlib.Core.Bool.{cond}
@@ -165,11 +165,6 @@ letters-shown n a b c x e =
     let m = fields-shown n a b c x e in
     record { first = m .0; second = m .1; third = m .2; none = m .3; line = letters-first n a b c x (m .4) }
 
--- a third number is not written where two are asked for
-pub letters-same : (t n a b c : ℕ) → (n ≡ 3 → ⊥) → letters t n a b c ≡ letters t n a b 0
-unfolding letters last
-letters-same t n a b c h = rw (ne-eqb n 3 h)
-
 -- the end of a line, and how long a line is
 pub last-three : {n : ℕ} (c : ℕ) → n ≡ 3 → entry c ++ (lf ∷ []) ≡ last n c
 unfolding last
@@ -204,7 +199,7 @@ nolf-digits (suc k) n =
 
 pub nolf-decimal : (a : ℕ) → NoLF (decimal a)
 unfolding decimal
-nolf-decimal a = nolf-digits 4 a
+nolf-decimal a = nolf-digits 19 a
 
 pub nolf-entry : (a : ℕ) → NoLF (entry a)
 unfolding entry

@@ -1,5 +1,5 @@
 -- Reading what was written gives the number, and writing what was read gives the bytes.
-use Prim.Native.Nat.{ℕ, zero, suc, _+_, _-_, _*_, _/_, _%_, _≤_, _<_}
+use Prim.Native.Nat.{ℕ, zero, suc, _+_, _-_, _*_, _/_, _%_, _^_, _≤_, _<_}
 use mathlib.Core.Path.{_≡_, ap, sym, _∙_}
 use mathlib.Core.List.{List, [], _∷_, _++_, append-assoc}
 use native.Mathlib.Omega.{arith}
@@ -51,7 +51,7 @@ read-digits (suc k) n i l h g =
 
 pub read-decimal : (n i : ℕ) (l : List ℕ) → n ≤ mostNumber → number i (decimal n ++ l) ≡ more n (i + length (decimal n)) l
 unfolding bound decimal
-read-decimal n i l h = read-digits 4 n i l (omega arith) h
+read-decimal n i l h = read-digits 19 n i l (omega arith) h
 
 -- ... where no digit follows: the number
 pub read-written : (n i b : ℕ) (l : List ℕ) → n ≤ mostNumber → 10 ≤ digit b → number i (decimal n ++ (b ∷ l)) ≡ Value n (i + length (decimal n))
@@ -65,12 +65,12 @@ digits-more zero n h = rw (lt-ltb n 10 h)
 digits-more (suc k) n h = rw (digits-more k (n / 10) (omega arith))
 
 -- one digit more is written behind the others
-pub decimal-more : (v d : ℕ) → 0 < v → d < 10 → v * 10 + d ≤ mostNumber → decimal (v * 10 + d) ≡ decimal v ++ ((d + 48) ∷ [])
+pub decimal-more : (v d : ℕ) → 0 < v → d < 10 → v * 10 + d < 2 ^ 64 → decimal (v * 10 + d) ≡ decimal v ++ ((d + 48) ∷ [])
 unfolding bound decimal digits
 decimal-more v d z h g =
     let q : (v * 10 + d) / 10 ≡ v = omega arith in
     let r : (v * 10 + d) % 10 ≡ d = omega arith in
-    rw (le-ltb (v * 10 + d) 10 (omega arith), q, r, ← digits-more 3 v (omega arith))
+    rw (le-ltb (v * 10 + d) 10 (omega arith), q, r, ← digits-more 18 v (omega arith))
 
 pub not-both : {i w j : ℕ} → Bad i ≡ Value w j → ⊥
 not-both e = let z : _≡_ {A = ℕ} 0 1 = cc in omega arith
@@ -103,7 +103,7 @@ more-written v i w j (b ∷ l) h e =
       rw s
           (ap (λ x. decimal v ++ (x ∷ l)) (byte-digit b d)
           ∙ sym (append-assoc (decimal v) ((digit b + 48) ∷ []) l)
-          ∙ ap (λ x. x ++ l) (sym (decimal-more v (digit b) (omega (arith, eqb-false v 0 z)) d (leb-true _ _ g)))
+          ∙ ap (λ x. x ++ l) (sym (decimal-more v (digit b) (omega (arith, eqb-false v 0 z)) d (omega (arith, leb-true (v * 10 + digit b) mostNumber g))))
           ∙ ih .2),
     ))
     (λ g. absurd (not-both (rw (t, z, g) at e)))))
@@ -136,7 +136,7 @@ number-shown s i w j e =
     (m .0, m .1, m .2 ∙ ap (λ x. decimal w ++ x) (drop-drop (j - i) i s ∙ ap (λ k. drop k s) q))
 
 -- the writer's step: all digits but the last, and the last
-pub decimal-last : (n : ℕ) → 10 ≤ n → n ≤ mostNumber → decimal n ≡ decimal (n / 10) ++ ((n % 10 + 48) ∷ [])
+pub decimal-last : (n : ℕ) → 10 ≤ n → n < 2 ^ 64 → decimal n ≡ decimal (n / 10) ++ ((n % 10 + 48) ∷ [])
 decimal-last n h g =
     let q : n / 10 * 10 + n % 10 ≡ n = omega arith in
     ap decimal (sym q) ∙ decimal-more (n / 10) (n % 10) (omega arith) (omega arith) (omega arith)
@@ -166,18 +166,18 @@ some (suc k) n =
 
 pub decimal-some : (n : ℕ) → 1 ≤ length (decimal n)
 unfolding decimal
-decimal-some n = some 4 n
+decimal-some n = some 19 n
 
-pub decimal-room : (n : ℕ) → length (decimal n) ≤ 5
+pub decimal-room : (n : ℕ) → length (decimal n) ≤ 20
 unfolding decimal
-decimal-room n = room 4 n
+decimal-room n = room 19 n
 
 pub decimal-two : (n : ℕ) → n < 100 → length (decimal n) ≤ 2
 unfolding decimal bound
-decimal-two n h = room-below 4 1 n h
+decimal-two n h = room-below 19 1 n h
 
 pub length-one : (d : ℕ) → d < 10 → length (decimal d) ≡ 1
 length-one d h = ap length (decimal-one d h)
 
-pub length-last : (n : ℕ) → 10 ≤ n → n ≤ mostNumber → length (decimal n) ≡ length (decimal (n / 10)) + 1
+pub length-last : (n : ℕ) → 10 ≤ n → n < 2 ^ 64 → length (decimal n) ≡ length (decimal (n / 10)) + 1
 length-last n h g = ap length (decimal-last n h g) ∙ length-append (decimal (n / 10)) ((n % 10 + 48) ∷ [])

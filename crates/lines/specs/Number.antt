@@ -32,6 +32,6 @@ unfoldable pub digits : ℕ → ℕ → List ℕ
 digits zero n = (n + 48) ∷ []
 digits (suc k) n = cond (ltb n 10) ((n + 48) ∷ []) (digits k (n / 10) ++ ((n % 10 + 48) ∷ []))
 
--- n as it is written, for n up to the largest number
+-- n as it is written, for every n of 64 bits
 unfoldable pub decimal : ℕ → List ℕ
-decimal n = digits 4 n
+decimal n = digits 19 n

@@ -5,8 +5,9 @@ use mathlib.Core.List.{List, [], _∷_, _++_}
 use mathlib.Core.Bool.{Bool, true, false}
 use native.Mathlib.Omega.{arith}
 use lib.Dec.{leb}
-use lib.ListN.{length, set, length-append}
-use lib.Seq.{sets, length-sets}
+use native.Mathlib.Numerals.{add-one}
+use lib.ListN.{length, set, take, getD, length-append}
+use lib.Seq.{sets, length-sets, take-suc, take-all}
 use borrow.Author.Tests.{leb-true, leb-false, le-leb, lt-leb}
 use Rattle.put.specs.Put.{Put, Fit, Wrote}
 use Rattle.put.proofs.Bytes.{sets-then}
@@ -30,6 +31,17 @@ put-as e p = rw e at p
 
 pub put-length : {o o′ : List ℕ} {at r : ℕ} {bs : List ℕ} → Put o at bs r o′ → length o′ ≡ length o
 put-length {o} {o′} {at} {r} {bs} p = ap length (p .holds) ∙ length-sets o at bs
+
+-- the bytes of a slice, put one behind the other
+pub put-more : {o o′ : List ℕ} {at : ℕ} (bs : List ℕ) (i : ℕ) → i < length bs → Put o at (take i bs) (at + i) o′
+    → Put o at (take (i + 1) bs) (at + (i + 1)) (set o′ (at + i) (getD bs i 0))
+put-more {o} {o′} {at} bs i h p =
+    let e : take (i + 1) bs ≡ take i bs ++ (getD bs i 0 ∷ []) = rw (add-one i, take-suc bs i 0 h) in
+    let q = put-then p (put-byte o′ (at + i) (getD bs i 0)) in
+    put-as (sym e) (record { ends = omega (arith, q .ends); holds = q .holds })
+
+pub put-all : {o o′ : List ℕ} {at : ℕ} (bs : List ℕ) (i : ℕ) → length bs ≤ i → Put o at (take i bs) (at + i) o′ → Put o at bs (at + i) o′
+put-all bs i h p = put-as (take-all i bs h) p
 
 -- pieces that fit together
 pub fit-then : {o o₁ o₂ : List ℕ} {at e r : ℕ} {bs cs : List ℕ} → Fit o at bs e o₁ → Fit o₁ e cs r o₂ → Fit o at (bs ++ cs) r o₂

@@ -22,7 +22,7 @@ fn has_room(len: usize, at: usize, size: usize) -> bool
 }
 
 // How many bytes n is written with.
-fn width(n: u16) -> usize
+fn width(n: usize) -> usize
     ensures { λ r. ⌜ r ≡ length (decimal n) ⌝ }
 {
     let mut m = n;
@@ -46,7 +46,7 @@ pub fn write_byte(out: &mut [u8], at: usize, b: u8) -> usize
 }
 
 // Writes the digits of n, which fit.
-fn put_number(out: &mut [u8], at: usize, n: u16) -> usize
+fn put_number(out: &mut [u8], at: usize, n: usize) -> usize
     ensures { λ r. ⌜ Fit (now (out .entry)) at (decimal n) r (now (out .exit)) ⌝ }
 {
     if n < 10 {
@@ -56,8 +56,24 @@ fn put_number(out: &mut [u8], at: usize, n: u16) -> usize
     write_byte(out, e, (n % 10 + 48) as u8)
 }
 
+// Writes the bytes from `at` on, and answers where they end.
+pub fn write_bytes(out: &mut [u8], at: usize, bytes: &[u8]) -> usize
+    ensures { λ r. ⌜ Wrote (now (out .entry)) at (now (bytes .entry)) r (now (out .exit)) ⌝ }
+{
+    let size = bytes.len();
+    if has_room(out.len(), at, size) {
+        let mut i = 0;
+        while i < size {
+            out[at + i] = bytes[i];
+            i += 1;
+        }
+        return at + i;
+    }
+    at
+}
+
 // Writes n from `at` on, and answers where it ends.
-pub fn write_number(out: &mut [u8], at: usize, n: u16) -> usize
+pub fn write_number(out: &mut [u8], at: usize, n: usize) -> usize
     ensures { λ r. ⌜ Wrote (now (out .entry)) at (decimal n) r (now (out .exit)) ⌝ }
 {
     let size = width(n);
@@ -69,7 +85,7 @@ pub fn write_number(out: &mut [u8], at: usize, n: u16) -> usize
 }
 
 // Writes a tab and n, and answers where it ends.
-pub fn write_field(out: &mut [u8], at: usize, n: u16) -> usize
+pub fn write_field(out: &mut [u8], at: usize, n: usize) -> usize
     ensures { λ r. ⌜ Wrote (now (out .entry)) at (entry n) r (now (out .exit)) ⌝ }
 {
     let size = 1 + width(n);
@@ -86,7 +102,7 @@ fn put_last(out: &mut [u8], at: usize, n: usize, c: u16) -> usize
     ensures { λ r. ⌜ Fit (now (out .entry)) at (last n c) r (now (out .exit)) ⌝ }
 {
     if n == 3 {
-        let e = write_field(out, at, c);
+        let e = write_field(out, at, c as usize);
         return write_byte(out, e, LF);
     }
     write_byte(out, at, LF)
@@ -96,9 +112,9 @@ fn put_last(out: &mut [u8], at: usize, n: usize, c: u16) -> usize
 fn size_of(n: usize, a: u16, b: u16, c: u16) -> usize
     ensures { λ r. ⌜ ((t : ℕ) → r ≡ length (letters t n a b c)) ⌝ }
 {
-    let two = 4 + width(a) + width(b);
+    let two = 4 + width(a as usize) + width(b as usize);
     if n == 3 {
-        return two + 1 + width(c);
+        return two + 1 + width(c as usize);
     }
     two
 }
@@ -111,8 +127,8 @@ pub fn write_letters(out: &mut [u8], at: usize, t: u8, n: usize, a: u16, b: u16,
     let len = out.len();
     if has_room(len, at, size) {
         let e = write_byte(out, at, t);
-        let f = write_field(out, e, a);
-        let g = write_field(out, f, b);
+        let f = write_field(out, e, a as usize);
+        let g = write_field(out, f, b as usize);
         return put_last(out, g, n, c);
     }
     at

@@ -1,3 +1,4 @@
+-- `lines::read_end` meets its contract: each answer by what the tests tell of the byte at `at` and of the length.
 use Prim.Native.Nat.{ℕ}
 use borrow.Author.Tests.{eq-eqb, ne-eqb}
 use lib.ListN.{List·getD-eq-default}

@@ -1,9 +1,8 @@
--- `lines::put_number` meets its contract: the digits before the last are put by the call, and n falls. Assumes nothing.
+-- `put::put_number` meets its contract: the digits before the last are put by the call, and n falls. Assumes nothing.
 use borrow.Author.Needs.{needs}
 use native.Mathlib.Omega.{arith}
 use mathlib.Core.Path.{sym}
-use Prim.Native.Nat.{ℕ, _<_, _≤_}
-use Rattle.lines.specs.Number.{mostNumber}
+use Prim.Native.Nat.{ℕ, _<_, _≤_, _^_}
 use Rattle.lines.proofs.NumberLaws.{decimal-one, decimal-last}
 use Rattle.put.proofs.PutLaws.{fit-as, fit-then}
 use borrow.Fn.Kinds.{In}
@@ -116,7 +115,7 @@ put-number-returns-2 t c =
     let s = c .before .before .before .before .before .before .before .before .before .before in
     let n = s .args .n in
     let h : 10 ≤ n = c .before .before .before .before .before .before .before .before .if1 .left in
-    let g : n ≤ mostNumber = omega (arith, s .fits .n) in
+    let g : n < 2 ^ 64 = omega (arith, s .fits .n) in
     fit-as (sym (decimal-last n h g))
     (fit-then (c .before .before .before .before .before .before .put-number .ensures) (c .before .before .write-byte2 .ensures .fits))
 

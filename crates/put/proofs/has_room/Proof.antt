@@ -1,4 +1,4 @@
--- `lines::has_room` meets its contract: the room behind `at` is compared without a sum that could wrap. Assumes nothing.
+-- `put::has_room` meets its contract: the room behind `at` is compared without a sum that could wrap. Assumes nothing.
 use Rattle.put.proofs.PutLaws.{room-before, room-behind}
 use Rattle.put.proofs.has_room.Statement.{statement}
 use Rattle.put.proofs.has_room.Tie as tie

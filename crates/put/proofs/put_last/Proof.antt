@@ -1,4 +1,4 @@
--- `lines::put_last` meets its contract: the third number and LF, or LF alone. Assumes nothing.
+-- `put::put_last` meets its contract: the third number and LF, or LF alone. Assumes nothing.
 use borrow.Author.Needs.{needs}
 use Rattle.lines.proofs.FieldLaws.{last-three, last-two}
 use Rattle.put.proofs.PutLaws.{fit-as, fit-then}

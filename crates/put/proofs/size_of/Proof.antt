@@ -1,4 +1,4 @@
--- `lines::size_of` meets its contract: the sizes of the pieces add up to the size of the line. Assumes nothing.
+-- `put::size_of` meets its contract: the sizes of the pieces add up to the size of the line. Assumes nothing.
 use native.Mathlib.Omega.{arith}
 use borrow.Author.Needs.{needs}
 use Rattle.lines.proofs.NumberLaws.{decimal-room}

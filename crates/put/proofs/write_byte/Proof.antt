@@ -1,4 +1,4 @@
--- `lines::write_byte` meets its contract: one byte is put where it fits. Assumes nothing.
+-- `put::write_byte` meets its contract: one byte is put where it fits. Assumes nothing.
 use native.Mathlib.Omega.{arith}
 use Rattle.put.proofs.PutLaws.{put-byte, wrote-put, wrote-none}
 use borrow.Author.Needs.{needs}

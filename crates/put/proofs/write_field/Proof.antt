@@ -1,4 +1,4 @@
--- `lines::write_field` meets its contract: a tab and a number are put where there is room for both. Assumes nothing.
+-- `put::write_field` meets its contract: a tab and a number are put where there is room for both. Assumes nothing.
 use borrow.Author.Needs.{needs}
 use native.Mathlib.Omega.{arith}
 use Rattle.lines.specs.Fields.{entry}

@@ -1,4 +1,4 @@
--- `lines::write_letters` meets its contract: the pieces are put one behind the other where there is room for all of them. Assumes nothing.
+-- `put::write_letters` meets its contract: the pieces are put one behind the other where there is room for all of them. Assumes nothing.
 use borrow.Author.Needs.{needs}
 use Rattle.lines.specs.Fields.{letters}
 use Rattle.put.proofs.PutLaws.{fit-then, wrote-room, wrote-lack}

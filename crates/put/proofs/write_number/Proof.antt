@@ -1,4 +1,4 @@
--- `lines::write_number` meets its contract: the digits are put where there is room for all of them. Assumes nothing.
+-- `put::write_number` meets its contract: the digits are put where there is room for all of them. Assumes nothing.
 use borrow.Author.Needs.{needs}
 use Rattle.put.proofs.PutLaws.{wrote-room, wrote-lack}
 use Rattle.put.proofs.write_number.Statement.{statement}
