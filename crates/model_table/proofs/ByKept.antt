@@ -4,7 +4,7 @@ use mathlib.Core.Path.{_≡_, refl, sym, ap, ap₂, _∙_}
 use mathlib.Core.Bool.{Bool, true, false, not, _&&_}
 use mathlib.Core.List.{List, [], _∷_, _++_, map}
 use native.Mathlib.Omega.{arith}
-use lib.ListN.{length, getD, length-map}
+use lib.ListN.{length, length-map}
 use lib.Seq.{ext-getD}
 use lib.Dec.{eqb}
 use borrow.Author.Tests.{eq-eqb, ne-eqb}
@@ -23,11 +23,12 @@ use Rattle.compiled.proofs.Lines.{lines-below, lines-distinct}
 use Rattle.compiled.proofs.Numbers.{length-single, at-single, element-number, element-below, inside-sits, inside-model, inside-within}
 use Rattle.compiled.proofs.Counts.{sum-same, sum-plus, count-sum, length-epses, leafs-count, joins-count, length-rules}
 use Rattle.compiled.proofs.Rows.{numbers-append}
+use Rattle.compiled.proofs.Marks.{at-map}
+use Rattle.model_read.proofs.Few.{one}
 use Rattle.model_fill.specs.Kept.{noSymbol, borne, belongsTo, Kept}
 use Rattle.model_table.specs.Work.{isSet, initialAt, startsAt, leafWith, leavesBy}
 use Rattle.model_table.specs.Work.{epsBy, joinWith, joinsFrom, joinsBy, countFrom, countBy, markAt, marksFor}
 use Rattle.model_table.proofs.WriteLaws.{and-false}
-use Rattle.model_table.proofs.CountLaws.{one}
 use Rattle.model_table.proofs.MarkLaws.{mark-inside, mark-element-at}
 
 pub each-same : {A : Type 0} (n : ℕ) (f g : ℕ → List A) → ((i : ℕ) → i < n → f i ≡ g i) → each n f ≡ each n g
@@ -171,11 +172,6 @@ module _ {stride n : ℕ} {ls : List Line} {B O E N : List ℕ} (g : GoodLines n
       x ∙ omega (arith, y, froms, endings, startings, length-rules n ls)
 
 -- the marks
-at-map : {A : Type 0} (f : A → ℕ) (l : List A) (i : ℕ) (d : A) → i < length l → at (map f l) i ≡ f (getD l i d)
-at-map f [] i d h = absurd (omega arith)
-at-map f (x ∷ l) zero d h = refl
-at-map f (x ∷ l) (suc i) d h = at-map f l i d (omega arith)
-
 mark-is : {n : ℕ} {ls : List Line} (start q : ℕ) (s : State) → Numbered n ls q s → markAt n start q ≡ markOf start s
 unfolding markOf
 mark-is {n} start q (element a) h =

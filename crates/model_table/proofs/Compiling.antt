@@ -1,9 +1,9 @@
 -- What turning a text into a table tells and leaves in the slices, from what each call promises. Assumes nothing.
-use Prim.Native.Nat.{ℕ, _+_, _*_, _≤_, _<_}
+use Prim.Native.Nat.{ℕ, _*_, _≤_, _<_}
 use native.Mathlib.Omega.{arith}
 use native.Mathlib.Nat.{mul-le-mul-right}
 use mathlib.Core.Path.{_≡_, refl, sym, ap, _∙_}
-use mathlib.Core.Logic.{_⊎_, inl, inr, ⊎-elim, if-pos}
+use mathlib.Core.Logic.{inl, inr, ⊎-elim, if-pos}
 use mathlib.Core.List.{List, _++_}
 use lib.ListN.{length, drop, replicate, length-replicate}
 use Rattle.paper.specs.Limits.{Limits, limits}
@@ -20,7 +20,7 @@ use Rattle.compiled.specs.Valid.{GoodLines}
 use Rattle.compiled.proofs.Rows.{length-numbers}
 use Rattle.compiled.proofs.Marks.{length-marks}
 use Rattle.model_read.specs.Text.{symbolsIn, saidBy, surveyTold}
-use Rattle.model_read.proofs.Exact.{survey-sizes, Surveyed, refusedWith, good, surveyed}
+use Rattle.model_read.proofs.Exact.{refused-not-sizes, survey-sizes, Surveyed, refusedWith, good, surveyed}
 use Rattle.model_read.proofs.Good.{well-lines, well-symbols}
 use Rattle.model_fill.specs.Ambiguity.{modelsIn, startIn, ambiguityAt, AmbiguousAt}
 use Rattle.model_fill.specs.Kept.{noSymbol, Long, Kept}
@@ -50,9 +50,6 @@ empty-long = record { bears = zeros; owners = zeros; ends = zeros; next = length
   where
     zeros : length (replicate {A = ℕ} (limits .states) 0) ≡ limits .states
     zeros = length-replicate {A = ℕ} (limits .states) 0
-
-sizes-refused : {n d p y t k : ℕ} → sizes y t k ≡ refused n d p → ⊥
-sizes-refused e = let z : _≡_ {A = ℕ} 0 1 = cc in omega arith
 
 module _ (L : Limits) (s M W : List ℕ) {B O E N : List ℕ} (room : ¬ NoRoom L M W) (long : Long (L .states) B O E N) where
   fill-is : {t : Told} → surveyTold L s ≡ t → fillTold L s B O E N ≡ after t (first (ambiguityAt (saidBy L s)) (length (saidBy L s)) t)
@@ -100,7 +97,7 @@ module _ (L : Limits) (s M W : List ℕ) {B O E N : List ℕ} (room : ¬ NoRoom 
 
         go : Alike → compileTold L s M W ≡ refused a d p
         go (refusedBoth f c) = c ∙ sym f ∙ tells
-        go (sized f h g) = absurd (sizes-refused (sym g ∙ tells))
+        go (sized f h g) = absurd (refused-not-sizes (sym g ∙ tells))
 
     pub fill-refused : {x : Refusal} → q ≡ found.Refused x → compileTold L s M W ≡ refused (x .number) (x .side) (x .place)
     unfolding fill.told
@@ -129,7 +126,7 @@ module _ (L : Limits) (s M W : List ℕ) {B O E N : List ℕ} (room : ¬ NoRoom 
           tells = sym (fills .answer) ∙ ap fill.told e
 
           go : Alike → Read
-          go (refusedBoth f c) = absurd (sizes-refused (sym tells ∙ f))
+          go (refusedBoth f c) = absurd (refused-not-sizes (sym tells ∙ f))
           go (sized f h g) =
               let w = sym tells ∙ g in
               let a : y ≡ symbolsIn L s = cc in

@@ -1,7 +1,7 @@
 -- Counting the rules that slices give, state by state. Assumes nothing.
-use Prim.Native.Nat.{ℕ, zero, suc, _+_, _*_, _≤_}
+use Prim.Native.Nat.{ℕ, _+_, _*_, _≤_}
 use mathlib.Core.Path.{_≡_, refl, sym, ap, _∙_}
-use mathlib.Core.Bool.{Bool, true, false, cond, not, _&&_}
+use mathlib.Core.Bool.{Bool, true, false, not, _&&_}
 use mathlib.Core.List.{List}
 use native.Mathlib.Numerals.{add-one}
 use native.Mathlib.Omega.{arith}
@@ -9,25 +9,13 @@ use lib.Dec.{eqb}
 use borrow.Author.Tests.{eq-eqb, ne-eqb}
 use Rattle.paper.specs.Limits.{at}
 use Rattle.compiled.specs.Counts.{sum, count}
+use Rattle.model_read.proofs.Few.{one, one-most, count-most}
 use Rattle.model_fill.specs.Kept.{noSymbol}
 use Rattle.model_table.specs.Work.{isSet, startsAt, countFrom, countBy}
 
--- a test counts 1 or 0
-abbrev pub one : Bool → ℕ
-one b = cond b 1 0
-
-one-le : (b : Bool) → one b ≤ 1
-one-le true = omega arith
-one-le false = omega arith
-
-count-le : (n : ℕ) (p : ℕ → Bool) → count n p ≤ n
-unfolding count
-count-le zero p = omega arith
-count-le (suc n) p = omega (arith, count-le n p, one-le (p n))
-
 pub from-le : (stride k : ℕ) (N : List ℕ) (q : ℕ) → countFrom stride k N q ≤ k
 unfolding countFrom
-from-le stride k N q = count-le k (λ y. isSet N (q * stride + y))
+from-le stride k N q = count-most k (λ y. isSet N (q * stride + y))
 
 -- what a flag counts
 pub flag-yes : (xs : List ℕ) (i : ℕ) → ¬ (at xs i ≡ 0) → one (isSet xs i) ≡ 1
@@ -83,8 +71,8 @@ module _ (stride k : ℕ) (B O E N : List ℕ) where
   unfolding sum
   counting-more q {n} {j} h c e =
       let x = from-le stride k N q in
-      let y = one-le (isSet E q) in
-      let z = one-le (startsAt B O q) in
+      let y = one-most (isSet E q) in
+      let z = one-most (startsAt B O q) in
       record {
         few = omega (arith, c .few);
         counted = rw (add-one q) (omega (arith, c .counted));

@@ -20,7 +20,7 @@ use Rattle.model_read.specs.Text.{symbolsIn, saidBy, surveyTold}
 use Rattle.model_read.proofs.Exact.{survey-sizes, survey-refused-exactly, Surveyed, refusedWith, good, surveyed}
 use Rattle.model_fill.specs.Ambiguity.{modelsIn, ambiguityAt, AmbiguousAt}
 use Rattle.model_fill.proofs.Ambiguities.{ambiguity-verdict, ambiguous-inside}
-use Rattle.model_table.specs.Compile.{TooManyRules, compileTold, Fit}
+use Rattle.model_table.specs.Compile.{TooManyRules, modelTold, compileTold, Fit}
 use Rattle.model_table.specs.Compile.{CompileRefused, shortSlice, badText, ambiguousModel, tooManyRules, told, Compiles}
 use Rattle.model_table.specs.declared.Compiled.{Compiled}
 use Rattle.model_table.specs.declared.Compiled.the-variants.{Table, Refused}
@@ -44,7 +44,7 @@ module _ (L : Limits) (s M W : List ℕ) where
   compile-short h = if-pos (noRoom? L M W) h _ _
 
   pub compile-survey : {n d p : ℕ} → ¬ NoRoom L M W → surveyTold L s ≡ refused n d p → compileTold L s M W ≡ refused n d p
-  unfolding compileTold after isRefusal
+  unfolding compileTold modelTold after isRefusal
   compile-survey h e = if-neg (noRoom? L M W) h _ _ ∙ rw e
 
   abbrev rest : Told
@@ -52,7 +52,7 @@ module _ (L : Limits) (s M W : List ℕ) where
       (holds (symbolsIn L s) (length (states (symbolsIn L s) (modelsIn L s))) (length (rules (symbolsIn L s) (modelsIn L s))))
 
   compile-fit : Fit L s M W → compileTold L s M W ≡ first (ambiguityAt ls) (length ls) rest
-  unfolding compileTold after isRefusal modelsIn
+  unfolding compileTold modelTold after isRefusal modelsIn
   compile-fit f = if-neg (noRoom? L M W) (f .room) _ _ ∙ rw (survey-sizes L s (f .wellFormed) (f .states))
 
   pub compile-ambiguous : {k : ℕ} → Fit L s M W → FirstWrong (AmbiguousAt ls) (length ls) k → compileTold L s M W ≡ refused 14 0 (k + 1)

@@ -82,19 +82,24 @@ module _ (L : Limits) (four : L .width ≡ 4) {s M W M′ W′ : List ℕ} {r : 
           let d : t ≡ length (rules (symbolsIn L s) (modelsIn L s)) = cc in
           record { fit = f; clear = h; few = u; symbols = a; states = b; rules = d; tells = tells }
 
-  -- the counted fronts of the slices
-  pub marks-front : take k M′ ≡ marksBy L s
+  -- the counts, and the counted fronts of the slices
+  pub symbols-told : n ≡ symbolsIn L s
+  symbols-told = known .symbols
+
+  pub marks-counted : k ≡ length (marksBy L s)
   unfolding marksBy
-  marks-front =
-      let z : k ≡ length (marksBy L s) = known .states ∙ sym (length-marks (startIn L s) (symbolsIn L s) (modelsIn L s)) in
-      rw (z, c .marks, known .tells) (filled-front n k t (marksBy L s) M)
+  marks-counted = known .states ∙ sym (length-marks (startIn L s) (symbolsIn L s) (modelsIn L s))
+
+  pub rules-counted : t * L .width ≡ length (rulesBy L s)
+  unfolding rulesBy
+  rules-counted =
+      ap (λ (w : ℕ). t * w) four ∙ ap (λ (i : ℕ). i * 4) (known .rules) ∙ sym (length-numbers (rules (symbolsIn L s) (modelsIn L s)))
+
+  pub marks-front : take k M′ ≡ marksBy L s
+  marks-front = rw (marks-counted, c .marks, known .tells) (filled-front n k t (marksBy L s) M)
 
   pub rules-front : take (t * L .width) W′ ≡ rulesBy L s
-  unfolding rulesBy
-  rules-front =
-      let z : t * L .width ≡ length (rulesBy L s) =
-      ap (λ (w : ℕ). t * w) four ∙ ap (λ (i : ℕ). i * 4) (known .rules) ∙ sym (length-numbers (rules (symbolsIn L s) (modelsIn L s))) in
-      rw (z, c .rules, known .tells) (filled-front n k t (rulesBy L s) W)
+  rules-front = rw (rules-counted, c .rules, known .tells) (filled-front n k t (rulesBy L s) W)
 
   valid : Valid (symbolsIn L s) (startIn L s) (modelsIn L s)
   unfolding modelsIn startIn

@@ -27,16 +27,19 @@ rulesBy L s = numbers (rules (symbolsIn L s) (modelsIn L s))
 abbrev pub TooManyRules : Limits → List ℕ → Type 0
 TooManyRules L s = L .rules < length (rules (symbolsIn L s) (modelsIn L s))
 
--- what compiling a text tells that is lent M for the marks and W for the rules: 1; 13 and 15; 14 at its first line; 16; or the table
-unfoldable pub compileTold : Limits → List ℕ → List ℕ → List ℕ → Told
-compileTold L s M W =
+-- what a model text tells: 13 and 15; 14 at its first line; 16; or the table
+unfoldable pub modelTold : Limits → List ℕ → Told
+modelTold L s =
     let ls = saidBy L s in
     let n = symbolsIn L s in
     let ms = modelsIn L s in
-    ite (noRoom? L M W) (refused 1 0 0)
-    (after (surveyTold L s)
+    after (surveyTold L s)
     (first (ambiguityAt ls) (length ls)
-    (ite (decLt (L .rules) (length (rules n ms))) (refused 16 0 0) (holds n (length (states n ms)) (length (rules n ms))))))
+    (ite (decLt (L .rules) (length (rules n ms))) (refused 16 0 0) (holds n (length (states n ms)) (length (rules n ms)))))
+
+-- what compiling a text tells that is lent M for the marks and W for the rules: 1 goes first
+unfoldable pub compileTold : Limits → List ℕ → List ℕ → List ℕ → Told
+compileTold L s M W = ite (noRoom? L M W) (refused 1 0 0) (modelTold L s)
 
 -- a text is well-formed, its table has no state too many, and there is room for every table
 pub record Fit (L : Limits) (s M W : List ℕ) : Type 0 where

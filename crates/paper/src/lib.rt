@@ -28,8 +28,19 @@ pub const LEAF: u16 = 65535;
 // So many bytes has a slice for a rule text.
 pub const TEXT: usize = 8192;
 
+// Programs read at most so many bytes of a text.
+pub const INPUT: usize = 32768;
+
 // At most so many tokens has a model.
 pub const TOKENS: usize = 200;
+
+// The greatest number that 16 bits hold.
+pub const MOST_NUMBER: usize = 65535;
+
+// Whose a refusal is, if it is not of the whole.
+pub const SENDER: u16 = 1;
+
+pub const RECEIVER: u16 = 2;
 
 // The numbers of the refusals.
 pub const ROOM: u16 = 1;

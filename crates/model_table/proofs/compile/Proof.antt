@@ -1,3 +1,4 @@
+-- `model_table::compile` meets its contract: each refusal and the table by the law of `Compiling` or `Exact` for it.
 use denote.Ref.{now}
 use mathlib.Core.Path.{refl, ap, _∙_}
 use mathlib.Core.Logic.{inl, inr}

@@ -7,7 +7,8 @@ use denote.Ref.{now}
 use borrow.Author.Needs.{needs}
 use Rattle.paper.specs.Limits.{limits}
 use Rattle.model_table.specs.Work.{isSet, startsAt}
-use Rattle.model_table.proofs.CountLaws.{one, from-le, flag-yes, flag-no, answer-yes, answer-no}
+use Rattle.model_read.proofs.Few.{one}
+use Rattle.model_table.proofs.CountLaws.{from-le, flag-yes, flag-no, answer-yes, answer-no}
 use Rattle.model_table.proofs.CountLaws.{Counting, counting-none, counting-more, counting-all}
 use Rattle.model_table.proofs.count_rules.Statement.{statement}
 use Rattle.model_table.proofs.count_rules.Tie as tie

@@ -1,3 +1,4 @@
+-- `model_table::write_rules` meets its contract: the three kinds of rules fit one behind the other, since there is room for all.
 use denote.Ref.{now}
 use mathlib.Core.Path.{refl}
 use native.Mathlib.Omega.{arith}

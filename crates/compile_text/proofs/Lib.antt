@@ -1,0 +1,2 @@
+pub mod CompileLaws
+pub mod Exact
