@@ -1,0 +1,5 @@
+pub mod Apart
+pub mod Tokens
+pub mod Checking
+pub mod CheckingOf
+pub mod Unique
