@@ -1,16 +1,13 @@
 -- The evaluation of all nodes: at the start, after one node more, and what it says at the end. Assumes nothing.
 use Prim.Native.Nat.{ℕ, _+_, _-_, _*_, _/_, _≤_, _<_}
 use mathlib.Core.Path.{_≡_, _∙_}
-use mathlib.Core.Logic.{by-cases}
 use mathlib.Core.List.{List}
 use mathlib.Core.Bool.{Bool}
-use native.Mathlib.Decide.{decLt}
 use native.Mathlib.Omega.{arith}
-use lib.ListN.{length, getD, replicate, length-replicate, getD-replicate, List·getD-eq-default}
+use lib.ListN.{length, replicate, length-replicate}
 use Rattle.paper.specs.Limits.{limits}
 use Rattle.paper.specs.Told.{Tells}
-use Rattle.bits.specs.Bits.{word, bitAt}
-use Rattle.bits.proofs.Words.{bit-zero}
+use Rattle.bits.proofs.Sets.{zeros-empty}
 use Rattle.tree.specs.Tree.{treeOf}
 use Rattle.accept.specs.Work.{words, span, state, Ready, GatherAll, ClosedAll, HasFinal, Evaluable, Going, Evaluated, Judgeable}
 use Rattle.accept.specs.Accept.{AcceptsNodes}
@@ -18,14 +15,9 @@ use Rattle.accept.proofs.SetLaws.{tells-as}
 use Rattle.accept.proofs.NodeLaws.{settled-next, accepts-of-final, final-of-accepts}
 
 -- nothing is in a set of zeros
-zeros-at : (n k : ℕ) → _≡_ {A = ℕ} (getD (replicate n 0) k 0) 0
-zeros-at n k = by-cases (decLt k n)
-    (λ h. getD-replicate n k 0 0 h)
-    (λ h. List·getD-eq-default (replicate n 0) 0 {n = k} (omega (arith, length-replicate {A = ℕ} n 0)))
-
-zeros-empty : (b n i q : ℕ) → state b (replicate n 0) i q ≡ 0
-unfolding state bitAt
-zeros-empty b n i q = rw (zeros-at n ((i * b + q) / word)) (bit-zero _)
+empty-state : (b n i q : ℕ) → state b (replicate n 0) i q ≡ 0
+unfolding state
+empty-state b n i q = zeros-empty n (i * b + q)
 
 module _ (xs ns : List ℕ) where
   pub going-start : (n : ℕ) → n ≡ words * limits .nodes → Evaluable xs ns → Going xs ns (replicate n 0) 0
@@ -35,7 +27,7 @@ module _ (xs ns : List ℕ) where
     settled = record {
       sound = λ j q h. absurd (omega arith);
       complete = λ j q h. absurd (omega arith);
-      empty = λ j q h l. zeros-empty span n j q;
+      empty = λ j q h l. empty-state span n j q;
     };
   }
 

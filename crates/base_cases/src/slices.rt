@@ -31,10 +31,10 @@ fn judge_numbers(all: &[u16]) {
     );
 }
 
-// Case n: 16,384 bytes and numbers are enough.
+// Case n: it has at most CASE_BYTES bytes, and so no more numbers.
 pub(crate) fn judge(n: usize) {
-    let mut bytes = [0u8; 16384];
-    let mut all = [0u16; 16384];
+    let mut bytes = [0u8; say::CASE_BYTES];
+    let mut all = [0u16; say::CASE_BYTES];
     let length = say::load(b's', n, &mut bytes);
     let count = say::numbers(&bytes[..length], &mut all);
     judge_numbers(say::part(&all, 0, count));

@@ -24,7 +24,7 @@ fn write_back(text: &[u8], symbols: u16, marks: &[u16], rules: &[u16]) {
     say::text(b"\n");
 }
 
-// Reads a text into slices of 9s.
+// Reads a text into slices of FILLERs.
 fn read_into(text: &[u8], marks: &mut [u16], rules: &mut [u16]) {
     match rule_read::read_text(text, marks, rules) {
         Reading::Refused(f) => say::refused(f, marks, rules),
@@ -49,9 +49,9 @@ fn read_into(text: &[u8], marks: &mut [u16], rules: &mut [u16]) {
 
 // Case n; one has a slice for marks that is too short, one a slice for rules.
 pub(crate) fn read(n: usize) {
-    let mut bytes = [0u8; 16384];
-    let mut marks = [9u16; paper::STATES];
-    let mut rules = [9u16; paper::RULE_NUMBERS];
+    let mut bytes = [0u8; say::CASE_BYTES];
+    let mut marks = [say::FILLER; paper::STATES];
+    let mut rules = [say::FILLER; paper::RULE_NUMBERS];
     let length = say::load(b't', n, &mut bytes);
     let m = say::less(paper::STATES, n, SHORT_MARKS);
     let r = say::less(paper::RULE_NUMBERS, n, SHORT_RULES);
@@ -61,7 +61,7 @@ pub(crate) fn read(n: usize) {
 // A slice for a text that is too short.
 pub(crate) fn short_text() {
     let marks = [6u16; 1];
-    let rules = [0u16; 4];
+    let rules = [0u16; paper::WIDTH];
     let mut out = [0u8; paper::TEXT - 1];
     match rule_write::write_text(1, &marks, &rules, &mut out) {
         Writing::Refused(f) => say::refusal(f),
@@ -72,8 +72,8 @@ pub(crate) fn short_text() {
 
 // The faulty line of the texts of pair n: how many bytes, and these.
 pub(crate) fn part(n: usize) {
-    let mut sender = [0u8; 4096];
-    let mut receiver = [0u8; 4096];
+    let mut sender = [0u8; say::CASE_BYTES];
+    let mut receiver = [0u8; say::CASE_BYTES];
     let a = say::load(b'p', n, &mut sender);
     let b = say::load(b'q', n, &mut receiver);
     let found = rule_part::faulty_line(&sender[..a], &receiver[..b]);

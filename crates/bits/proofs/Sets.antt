@@ -1,11 +1,11 @@
 -- One bit of a list of words, and that a list of words is known by its bits. Assumes nothing.
-use Prim.Native.Nat.{ℕ, _+_, _-_, _*_, _/_, _%_, _^_, _≤_, _<_}
+use Prim.Native.Nat.{ℕ, zero, suc, _+_, _-_, _*_, _/_, _%_, _^_, _≤_, _<_}
 use mathlib.Core.Path.{_≡_, refl, sym, _∙_}
 use mathlib.Core.List.{List}
 use mathlib.Core.Logic.{_≢_, by-cases}
 use native.Mathlib.Decide.{ℕ-discrete, decLt}
 use native.Mathlib.Omega.{arith}
-use lib.ListN.{length, getD, set, length-set, List·getD-eq-default}
+use lib.ListN.{length, getD, set, length-set, replicate, List·getD-eq-default}
 use lib.Seq.{getD-set-same, getD-set-other, ext-getD}
 use Rattle.bits.specs.Bits.{word, bitOf, bitAt, Made}
 use Rattle.bits.proofs.Words.{WordMade, bit-shifted, one-shifted, bit-zero, bit-small, sum-made, sum-fits, less-made, less-fits, word-unique}
@@ -14,6 +14,16 @@ use Rattle.bits.proofs.Words.{WordMade, bit-shifted, one-shifted, bit-z
 pub bit-outside : (l : List ℕ) (i : ℕ) → length l ≤ i / word → bitAt l i ≡ 0
 unfolding bitAt
 bit-outside l i h = rw (List·getD-eq-default l 0 h, bit-zero (i % word))
+
+-- nothing is in a set of zeros
+pub zeros-at : (n k : ℕ) → _≡_ {A = ℕ} (getD (replicate n 0) k 0) 0
+zeros-at zero k = refl
+zeros-at (suc n) zero = refl
+zeros-at (suc n) (suc k) = zeros-at n k
+
+pub zeros-empty : (n i : ℕ) → bitAt (replicate n 0) i ≡ 0
+unfolding bitAt
+zeros-empty n i = rw (zeros-at n (i / word)) (bit-zero (i % word))
 
 pub bit-read : (l : List ℕ) (i : ℕ) → getD l (i / word) 0 / 2 ^ (i % word) % 2 ≡ bitAt l i
 unfolding bitAt

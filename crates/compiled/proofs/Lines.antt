@@ -7,9 +7,9 @@ use mathlib.Core.Bool.{Bool, true, false, cond}
 use mathlib.Core.Option.{Option, none, some}
 use mathlib.Core.List.{List, [], _∷_, _++_}
 use lib.Dec.{T, eqb, eqb→eq, eqb-refl}
-use Rattle.model.specs.Model.{Model, bears, places, Ambiguous}
+use Rattle.model.specs.Model.{Model, bears, places}
 use Rattle.model.specs.Documents.{Line, modelOf}
-use Rattle.compiled.specs.Valid.{GoodLine, GoodLines, noLine, oneMore, Unambiguous}
+use Rattle.compiled.specs.Valid.{GoodLine, GoodLines, noLine, oneMore}
 
 pub none-some : {m : Model} → none ≡ some m → ⊥
 none-some e = let z : _≡_ {A = ℕ} 0 1 = cc in omega arith
@@ -109,14 +109,3 @@ distinct-more ln e (andLine {ln = l} {ls = ls} s d) =
 pub lines-distinct : {n : ℕ} {ls : List Line} → GoodLines n ls → Distinct ls
 lines-distinct noLine = noLines
 lines-distinct (oneMore {ln = ln} h g) = distinct-more ln (g .new) (lines-distinct h)
-
--- models that are not ambiguous, line by line
-pub unambiguous-none : Unambiguous []
-unambiguous-none a m e = absurd (no-model a e)
-
-pub unambiguous-more : (ls : List Line) (ln : Line) → Unambiguous ls → ¬ Ambiguous (ln .model) → Unambiguous (ls ++ (ln ∷ []))
-unambiguous-more ls ln u n a m e = go (model-append ls ln a m e)
-  where
-    go : (modelOf ls a ≡ some m) ⊎ ((ln .of ≡ a) × (ln .model ≡ m)) → ¬ Ambiguous m
-    go (inl h) = u a m h
-    go (inr (o, s)) = subst (λ m. ¬ Ambiguous m) s n

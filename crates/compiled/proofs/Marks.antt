@@ -6,7 +6,7 @@ use mathlib.Core.Path.{_≡_, refl, sym, _∙_, ap, subst}
 use mathlib.Core.Logic.{⊎-elim, by-cases, inl}
 use mathlib.Core.Bool.{Bool, true, false, cond}
 use mathlib.Core.List.{List, [], _∷_, map}
-use lib.ListN.{length, getD, List·getD-eq-default}
+use lib.ListN.{length, getD, length-map, List·getD-eq-default}
 use lib.Dec.{T, eqb, eqb→eq, eqb-refl}
 use Rattle.paper.specs.Limits.{at}
 use Rattle.table.specs.Rules.{Final, sortOf, finalOf, markFor, leftSort, rightSort, mostSort, mostFinal}
@@ -19,11 +19,7 @@ use Rattle.compiled.specs.Meaning.{Numbered}
 use Rattle.compiled.proofs.Lines.{cond-yes}
 use Rattle.compiled.proofs.Numbers.{number-element, element-number}
 
-length-map : {A B : Type 0} (f : A → B) (l : List A) → length (map f l) ≡ length l
-length-map f [] = refl
-length-map f (x ∷ l) = ap suc (length-map f l)
-
-at-map : {A : Type 0} (f : A → ℕ) (l : List A) (i : ℕ) (d : A) → i < length l → at (map f l) i ≡ f (getD l i d)
+pub at-map : {A : Type 0} (f : A → ℕ) (l : List A) (i : ℕ) (d : A) → i < length l → at (map f l) i ≡ f (getD l i d)
 at-map f [] i d h = absurd (omega arith)
 at-map f (x ∷ l) zero d h = refl
 at-map f (x ∷ l) (suc i) d h = at-map f l i d (omega arith)
@@ -66,7 +62,7 @@ inside-sort inside-mark = refl
 module _ (start n : ℕ) (ls : List Line) where
   pub length-marks : length (marks start n ls) ≡ length (states n ls)
   unfolding marks
-  length-marks = length-map (markOf start) (states n ls)
+  length-marks = length-map (states n ls) (markOf start)
 
   mark-at : (q : ℕ) → q < length (states n ls) → at (marks start n ls) q ≡ markOf start (stateAt (states n ls) q)
   unfolding marks stateAt

@@ -7,11 +7,11 @@ use mathlib.Core.List.{List}
 use native.Mathlib.Decide.{ℕ-discrete, decLt}
 use native.Mathlib.Nat.{suc-mul, mul-le-mul-right}
 use native.Mathlib.Omega.{arith}
-use lib.ListN.{length, getD, replicate, length-replicate, getD-replicate, List·getD-eq-default}
+use lib.ListN.{length, replicate, length-replicate}
 use Rattle.paper.specs.Limits.{Limits, at, leafKind, joinKind, epsKind}
 use Rattle.paper.proofs.TellsLaws.{tells-yes, tells-no}
 use Rattle.bits.specs.Bits.{word, bitAt, Made}
-use Rattle.bits.proofs.Words.{bit-zero}
+use Rattle.bits.proofs.Sets.{zeros-empty}
 use Rattle.factorized.specs.Work.{InRange, sideOf, ruleSide, sideWords, Seen, Looked}
 
 module _ (L : Limits) (k a b : ℕ) where
@@ -127,16 +127,6 @@ module _ (L : Limits) (xs : List ℕ) (range : InRange L xs (L .states)) where
                   (λ e. m .others (ruleSide L xs j) e ∙ seen .all j (omega arith) d));
             };
           }
-
--- a set of zeros is empty
-pub zeros-at : (n k : ℕ) → _≡_ {A = ℕ} (getD (replicate n 0) k 0) 0
-zeros-at n k = by-cases (decLt k n)
-    (λ h. getD-replicate n k 0 0 h)
-    (λ h. List·getD-eq-default (replicate n 0) 0 {n = k} (omega (arith, length-replicate {A = ℕ} n 0)))
-
-zeros-empty : (n s : ℕ) → bitAt (replicate n 0) s ≡ 0
-unfolding bitAt
-zeros-empty n s = rw (zeros-at n (s / word)) (bit-zero _)
 
 pub seen-none : (L : Limits) (xs : List ℕ) (n : ℕ) → n ≡ sideWords L → Seen L xs 0 (replicate n 0)
 seen-none L xs n e = record {

@@ -10,12 +10,12 @@ use lib.ListN.{length, set, length-set, replicate, length-replicate, List·getD-
 use lib.Seq.{getD-set-same, getD-set-other}
 use Rattle.paper.specs.Limits.{Limits, at}
 use Rattle.paper.proofs.TellsLaws.{tells-yes, tells-no}
+use Rattle.bits.proofs.Sets.{zeros-at}
 use Rattle.table.specs.Rules.{Rule, RulesOf, Reach, leftSort, rightSort, Final}
 use Rattle.receiver.specs.Receiver.{TwoReached}
 use Rattle.receiver.specs.Numbers.{OneOf, Ends, numbersEach, numbersSize}
 use Rattle.factorized.specs.Work.{Stands, Flagged, Closed, Reached, StandsFlagged, Single, none, one, Two, TheOne, FinalFlagged, IsBit}
 use Rattle.factorized.specs.Work.{NumbersAt, Numbered, Listed, AllNumbered}
-use Rattle.factorized.proofs.SideLaws.{zeros-at}
 
 -- so many flags are there, that of p alone set
 pub flags-long : (n p : ℕ) → length {A = ℕ} (set (replicate n 0) p 1) ≡ n

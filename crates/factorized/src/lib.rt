@@ -75,7 +75,8 @@ fn is_left_again(rules: &[u16], i: usize, seen: &mut [u16]) -> bool
 // The first rule with an earlier one's left side, or the number of rules.
 fn first_left_again(rules: &[u16]) -> usize
     requires { ⌜ InRange limits (now rules) (limits .states) ⌝ }
-    ensures { λ r. ⌜ FirstOf (LeftSideAgain limits (now (rules .entry))) (length (now (rules .entry)) / limits .width) r ⌝ }
+    ensures { λ r. ⌜ FirstOf (LeftSideAgain limits (now (rules .entry)))
+        (length (now (rules .entry)) / limits .width) r ⌝ }
 {
     let mut seen = [0u16; SIDE_WORDS];
     let rows = rules.len() / paper::WIDTH;
@@ -174,7 +175,8 @@ fn step_all(rules: &[u16], reached: &mut [u16]) -> usize
 // Flags all that ε steps reach from the flagged states.
 fn close(rules: &[u16], reached: &mut [u16])
     requires { ⌜ InRange limits (now rules) (length (now reached)) ⌝ }
-    ensures { λ _. ⌜ Closed (RulesOf (limits .width) (now (rules .entry))) (now (reached .entry)) (now (reached .exit)) ⌝ }
+    ensures { λ _. ⌜ Closed (RulesOf (limits .width) (now (rules .entry)))
+        (now (reached .entry)) (now (reached .exit)) ⌝ }
 {
     loop {
         let new = step_all(rules, reached);
@@ -198,7 +200,8 @@ fn stands(marks: &[u16], reached: &[u16], side: u16, q: usize) -> bool
 // The one flagged state that may stand on this side; the number of states if there is none, and one more if there are two.
 fn the_one(marks: &[u16], reached: &[u16], side: u16) -> usize
     requires { ⌜ length (now marks) < length (now reached) ⌝ }
-    ensures { λ r. ⌜ TheOne (StandsFlagged (now (marks .entry)) (now (reached .entry)) side) (length (now (marks .entry))) r ⌝ }
+    ensures { λ r. ⌜ TheOne (StandsFlagged (now (marks .entry)) (now (reached .entry)) side)
+        (length (now (marks .entry))) r ⌝ }
 {
     let n = marks.len();
     let mut one = n;
@@ -236,7 +239,8 @@ fn ends(marks: &[u16], reached: &[u16]) -> u16
 fn splits(marks: &[u16], rules: &[u16], p: usize, numbers: &mut [u16]) -> bool
     requires { ⌜ Ranged limits (now marks) (now rules) × (length (now numbers) ≡ numbersSize (limits .states)) ⌝ }
     requires { ⌜ p ≤ length (now marks) ⌝ }
-    ensures { λ r. ⌜ Numbered limits (now (marks .entry)) (now (rules .entry)) p (now (numbers .entry)) r (now (numbers .exit)) ⌝ }
+    ensures { λ r. ⌜ Numbered limits (now (marks .entry)) (now (rules .entry)) p
+        (now (numbers .entry)) r (now (numbers .exit)) ⌝ }
 {
     let mut reached = [0u16; paper::STATES + 1];
     reached[p] = 1;
@@ -317,8 +321,8 @@ pub fn check(symbols: u16, marks: &[u16], rules: &[u16]) -> Checked
 
 // The same check, which writes the numbers of the states, and of the sink, to the front of the lent slice if it has room for them.
 pub fn factor(symbols: u16, marks: &[u16], rules: &[u16], numbers: &mut [u16]) -> Checked
-    ensures { λ r. ⌜ Factored limits symbols (now (marks .entry)) (now (rules .entry)) (now (numbers .entry)) (now (numbers .exit))
-        (checkTold r) ⌝ }
+    ensures { λ r. ⌜ Factored limits symbols (now (marks .entry)) (now (rules .entry))
+        (now (numbers .entry)) (now (numbers .exit)) (checkTold r) ⌝ }
 {
     if let Checked::Refused(refusal) = table::check(symbols, marks, rules) {
         return Checked::Refused(refusal);

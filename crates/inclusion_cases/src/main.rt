@@ -3,6 +3,7 @@
 ghost use mathlib.Core.Path.{_≡_};
 ghost use Prim.Native.Nat.{_+_, _*_, _≤_};
 ghost use lib.ListN.{length};
+ghost use Rattle.lines.specs.Number.{mostNumber};
 use accept::Answer as Judgement;
 use inclusion::Answer;
 
@@ -27,8 +28,8 @@ fn at(all: &[u16], a: usize) -> u16 {
 }
 
 fn table_at(all: &[u16], a: usize) -> Place
-    requires { ⌜ a ≤ 200000 ⌝ }
-    ensures { λ r. ⌜ (r .rules ≤ a + 65538) × (r .count ≤ 65535) ⌝ }
+    requires { ⌜ a ≤ 3 * mostNumber ⌝ }
+    ensures { λ r. ⌜ (r .rules ≤ a + 3 + mostNumber) × (r .count ≤ mostNumber) ⌝ }
 {
     let states = at(all, a + 1) as usize;
     let count = at(all, a + 2 + states) as usize;
@@ -144,11 +145,11 @@ fn tell(all: &[u16], sender: Place, receiver: Place, room: &mut [u16]) {
     say::text(b"\n");
 }
 
-// Case n, its witness slice full of 9s.
+// Case n, its witness slice full of FILLERs; no case has more numbers than a rule text has bytes.
 fn compare(n: usize) {
-    let mut bytes = [0u8; 32768];
-    let mut all = [0u16; 8192];
-    let mut slice = [9u16; 2 * paper::NODES];
+    let mut bytes = [0u8; paper::INPUT];
+    let mut all = [0u16; paper::TEXT];
+    let mut slice = [say::FILLER; 2 * paper::NODES];
     let length = say::load(b'i', n, &mut bytes);
     let count = say::numbers(&bytes[..length], &mut all);
     let numbers = say::part(&all, 0, count);

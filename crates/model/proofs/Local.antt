@@ -1,7 +1,6 @@
 -- A word of a linear model is a walk: it begins in First, goes on by Follow and ends in Last.
 use Prim.Native.Nat.{ℕ}
 use mathlib.Core.List.{List, [], _∷_, _++_}
-use mathlib.Core.Logic.{_↔_}
 use Rattle.model.specs.Model.{Model, symbol, empty, sequence, choice, star, maybe, plus, Word, one, nothing, both, left, right, stop, more, skip, take, some}
 use Rattle.model.proofs.Families.{Has, First, f-here, f-seq-l, f-seq-r, f-alt-l, f-alt-r, f-star, f-opt, f-plus, Last, l-here, l-seq-l, l-seq-r, l-alt-l, l-alt-r, l-star, l-opt, l-plus, Follow, n-seq-l, n-seq-r, n-across, n-alt-l, n-alt-r, n-star, n-star-again, n-opt, n-plus, n-plus-again, Apart, Linear, li-symbol, li-empty, li-seq, li-alt, li-star, li-opt, li-plus, first-has, last-has, follow-from, follow-to}
 
@@ -170,7 +169,3 @@ walk-word (li-alt kl kr d) = alt-back d (walk-word kl) (walk-word kr)
 walk-word (li-star k) = star-back (walk-word k)
 walk-word (li-opt k) = opt-back (walk-word k)
 walk-word (li-plus k) = plus-back (walk-word k)
-
--- G1
-pub word-iff-walk : {m : Model} → Linear m → (w : List ℕ) → Word m w ↔ Walk m w
-word-iff-walk k w = (word-walk, walk-word k w)

@@ -3,7 +3,7 @@ use Prim.Native.Nat.{ℕ}
 use mathlib.Core.Path.{_≡_, refl}
 use mathlib.Core.Logic.{_↔_, _≢_}
 use mathlib.Core.List.{List, [], _∷_, _++_, append-assoc}
-use Rattle.model.specs.Model.{Model, symbol, empty, sequence, choice, star, maybe, plus, Word, one, nothing, both, left, right, stop, more, skip, take, some, bears, marked, CanCome, Ambiguous}
+use Rattle.model.specs.Model.{Model, symbol, empty, sequence, choice, star, maybe, plus, Word, one, nothing, both, left, right, stop, more, skip, take, some, bears, marked, Ambiguous}
 use Rattle.model.proofs.Families.{Has, h-here, h-seq-l, h-seq-r, h-alt-l, h-alt-r, h-star, h-opt, h-plus, First, Last, Follow, Linear, first-has, follow-from, follow-to}
 use Rattle.model.proofs.Local.{Run, done, step, Walk, walk, word-walk, walk-word}
 use Rattle.model.proofs.Places.{mark-linear}
@@ -105,10 +105,6 @@ pub after-next : {m : Model} → Linear m → (u v : List ℕ) (y : ℕ) → Wor
 after-next li u v y a p =
     let c = completion (has-passes (after-has u p)) in
     (c .0, walk-word li _ (walk-on u v (word-walk a) p (c .1)))
-
--- If u begins a word of places, y can come next exactly if it is First (u empty) or follows the last of u.
-pub can-come-iff : (m : Model) (u v : List ℕ) → Word (marked m) (u ++ v) → (y : ℕ) → CanCome m u y ↔ After (marked m) u y
-can-come-iff m u v a y = (next-after u y, after-next (mark-linear m 0) u v y a)
 
 -- Two places with one symbol, both First or both after one place.
 pub data Clash (m : Model) : Type 0 where

@@ -1,7 +1,6 @@
 -- Places told apart: each symbol of a model is replaced by the number of its place, counted from the left.
 use Prim.Native.Nat.{ℕ, _+_, _≤_, _<_}
 use native.Mathlib.Omega.{arith}
-use mathlib.Core.List.{[]}
 use lib.ListN.{length, length-append}
 use Rattle.model.specs.Model.{Model, symbol, empty, sequence, choice, star, maybe, plus, symbols, mark}
 use Rattle.model.proofs.Families.{Has, h-here, h-seq-l, h-seq-r, h-alt-l, h-alt-r, h-star, h-opt, h-plus, Linear, li-symbol, li-empty, li-seq, li-alt, li-star, li-opt, li-plus, Apart}

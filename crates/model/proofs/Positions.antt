@@ -51,10 +51,6 @@ pub comes-from : (m : Model) (i y : ℕ) → Comes m i y → i < suc (places m)
 comes-from m zero y p = omega arith
 comes-from m (suc x) y p = let h = place-of m (follow-from p) in omega arith
 
-pub ends-from : (m : Model) (i : ℕ) → Ends m i → i < suc (places m)
-ends-from m zero e = omega arith
-ends-from m (suc x) e = let h = place-of m (last-has e) in omega arith
-
 -- by words
 pub comes-next : (m : Model) (i y : ℕ) → Comes m i y → ComesNext m i y
 comes-next m zero y p = let a = a-word (marked m) in after-next (mark-linear m 0) [] (a .0) y (a .1) p

@@ -1,9 +1,9 @@
 -- The tests of specs/Sets and the families of rules say the same. Assumes nothing.
-use Prim.Native.Nat.{ℕ, zero, suc, _+_, _<_}
+use Prim.Native.Nat.{ℕ, zero, suc, _<_}
 use native.Mathlib.Omega.{arith}
 use native.Mathlib.Decide.{ℕ-discrete}
 use mathlib.Core.Path.{_≡_, subst}
-use mathlib.Core.Logic.{_↔_, _≢_}
+use mathlib.Core.Logic.{_≢_}
 use mathlib.Core.Bool.{Bool, true, false, _||_, _&&_}
 use mathlib.Core.List.{List, [], _∷_, _++_}
 use lib.Dec.{T, eqb→eq, eqb-refl}
@@ -70,9 +70,6 @@ empty-nullable (some {u = u} {v = v} a b) e = empty-nullable a (empty-l u v e)
 pub word-nullable : {m : Model} → Word m [] → T (nullable m)
 word-nullable a = empty-nullable a tt
 
-pub nullable-iff : (m : Model) → T (nullable m) ↔ Word m []
-nullable-iff m = (nullable-word m, word-nullable)
-
 -- first
 pub test-first : (m : Model) (x : ℕ) → T (first m x) → First m x
 test-first (symbol a) x t = subst (First (symbol a)) (eqb→eq a x t) f-here
@@ -93,9 +90,6 @@ first-test (f-star p) = first-test p
 first-test (f-opt p) = first-test p
 first-test (f-plus p) = first-test p
 
-pub first-iff : (m : Model) (x : ℕ) → T (first m x) ↔ First m x
-first-iff m x = (test-first m x, first-test)
-
 -- last
 pub test-last : (m : Model) (x : ℕ) → T (last m x) → Last m x
 test-last (symbol a) x t = subst (Last (symbol a)) (eqb→eq a x t) l-here
@@ -115,9 +109,6 @@ last-test (l-alt-r {l = l} {r = r} {x = x} p) = or-right (last l x) (last r x) (
 last-test (l-star p) = last-test p
 last-test (l-opt p) = last-test p
 last-test (l-plus p) = last-test p
-
-pub last-iff : (m : Model) (x : ℕ) → T (last m x) ↔ Last m x
-last-iff m x = (test-last m x, last-test)
 
 -- follow
 pub test-follow : (m : Model) (x y : ℕ) → T (follow m x y) → Follow m x y
@@ -140,9 +131,6 @@ follow-test (n-star-again {m = m} {x = x} {y = y} p q) = or-right (follow m x y)
 follow-test (n-opt p) = follow-test p
 follow-test (n-plus {m = m} {x = x} {y = y} p) = or-left (follow m x y) (last m x && first m y) (follow-test p)
 follow-test (n-plus-again {m = m} {x = x} {y = y} p q) = or-right (follow m x y) (last m x && first m y) (and-both (last m x) (first m y) (last-test p) (first-test q))
-
-pub follow-iff : (m : Model) (x y : ℕ) → T (follow m x y) ↔ Follow m x y
-follow-iff m x y = (test-follow m x y, follow-test)
 
 -- a number below n passes a test
 pub test-below : (n : ℕ) (p : ℕ → Bool) → T (someBelow n p) → (i : ℕ) × (i < n) × T (p i)

@@ -33,7 +33,7 @@ fn show(symbols: u16, marks: &[u16], rules: &[u16]) {
     }
 }
 
-// Turns a text into a table in slices of 9s.
+// Turns a text into a table in slices of FILLERs.
 fn compile_into(text: &[u8], marks: &mut [u16], rules: &mut [u16]) {
     match model_table::compile(text, marks, rules) {
         Compiled::Refused(f) => say::refused(f, marks, rules),
@@ -49,9 +49,9 @@ fn compile_into(text: &[u8], marks: &mut [u16], rules: &mut [u16]) {
 
 // Case n; one has a slice for marks that is too short, one a slice for rules.
 fn compile(n: usize) {
-    let mut bytes = [0u8; 16384];
-    let mut marks = [9u16; paper::STATES];
-    let mut rules = [9u16; paper::RULE_NUMBERS];
+    let mut bytes = [0u8; say::CASE_BYTES];
+    let mut marks = [say::FILLER; paper::STATES];
+    let mut rules = [say::FILLER; paper::RULE_NUMBERS];
     let length = say::load(b'm', n, &mut bytes);
     let m = say::less(paper::STATES, n, SHORT_MARKS);
     let r = say::less(paper::RULE_NUMBERS, n, SHORT_RULES);

@@ -12,24 +12,18 @@ use Rattle.rows.specs.Fill.{Filled}
 use Rattle.model.specs.Model.{Model, places}
 use Rattle.postfix.specs.Field.{modelIn}
 use Rattle.model_line.specs.Line.{says, content, splitOf, tokenField}
-use Rattle.model_line.specs.declared.Cut.{Cut}
 use Rattle.model_line.specs.declared.Cut.the-variants.{Field, Misshapen}
+use Rattle.model_line.proofs.SplitLaws.{not-field}
 use Rattle.model_line.proofs.Known.{says-content}
 use Rattle.model_sets.specs.Sets.{Room, room?, answerOf, Fills}
 use Rattle.model_sets.specs.declared.Sets.{Sets}
 use Rattle.model_sets.specs.declared.Sets.the-variants.{Places, Unfit}
+use Rattle.model_sets.proofs.Filling.{places-unfit}
 use Rattle.compiled.specs.States.{State, insides, stateAt}
-use Rattle.model.specs.Documents.{Line}
 use Rattle.model_fill.specs.Kept.{belongsTo, Long, Kept}
 use Rattle.model_fill.specs.Work.{Adds}
 use Rattle.model_fill.proofs.Lending.{Behind, lent-behind, lent-at, lent-length}
 use Rattle.model_fill.proofs.KeptLaws.{kept-more}
-
-no-field : {a i : ℕ} → Misshapen ≡ Field a i → ⊥
-no-field e = let z : _≡_ {A = ℕ} 0 1 = cc in omega arith
-
-no-places : {k : ℕ} → Unfit ≡ Places k → ⊥
-no-places e = let z : _≡_ {A = ℕ} 0 1 = cc in omega arith
 
 answer-places : (stride : ℕ) (o : Option Model) (m : Model) (b e n : ℕ) → o ≡ some m → Room stride (places m) b e n
     → answerOf stride o b e n ≡ Places (places m)
@@ -42,17 +36,17 @@ same-count e = cc
 -- no more places are answered than there are states
 pub answer-few : (stride : ℕ) (o : Option Model) (b e n : ℕ) {k : ℕ} → Places k ≡ answerOf stride o b e n → k ≤ stride
 unfolding answerOf
-answer-few stride none b e n a = absurd (no-places (sym a))
+answer-few stride none b e n a = absurd (places-unfit (sym a))
 answer-few stride (some m) b e n {k} a =
     by-cases (room? stride (places m) b e n)
     (λ h. let z = same-count (a ∙ if-pos (room? stride (places m) b e n) h (Places (places m)) Unfit) in let g = h .0 in omega arith)
-    (λ h. absurd (no-places (sym (a ∙ if-neg (room? stride (places m) b e n) h (Places (places m)) Unfit))))
+    (λ h. absurd (places-unfit (sym (a ∙ if-neg (room? stride (places m) b e n) h (Places (places m)) Unfit))))
 
 -- a line without a token field adds nothing, as it says no model
 pub adds-misshapen : (L : Limits) (n : ℕ) (x : List ℕ) {B O E N : List ℕ} (base : ℕ) → Misshapen ≡ splitOf x → Long (L .states) B O E N
     → Adds L n x B O E N base base B O E N
 adds-misshapen L n x base e l =
-    record { long = l; adds = λ S a m s b k f r. absurd (no-field (e ∙ says-content L n x s .cut)) }
+    record { long = l; adds = λ S a m s b k f r. absurd (not-field (e ∙ says-content L n x s .cut)) }
 
 -- the rests of three slices, lent and given back
 module _ (L : Limits) (n : ℕ) (x : List ℕ) {B O E N : List ℕ} (base from : ℕ) {symbol : ℕ} {r : Sets} {B₁ E₁ N₁ : List ℕ}
@@ -126,7 +120,7 @@ module _ (L : Limits) (n : ℕ) (x : List ℕ) {B O E N : List ℕ} (base from :
 
   pub adds-unfit : Unfit ≡ r → Adds L n x B O E N base base backB O backE backN
   adds-unfit e =
-      record { long = long-back refl; adds = λ S a m s b k f h. absurd (no-places (e ∙ placed m (same-field s .1) h)) }
+      record { long = long-back refl; adds = λ S a m s b k f h. absurd (places-unfit (e ∙ placed m (same-field s .1) h)) }
 
   pub adds-line : {k : ℕ} {O′ : List ℕ} → Places k ≡ r → Filled O base (base + 1 + k) symbol O′
       → Adds L n x B O E N base (base + 1 + k) backB O′ backE backN

@@ -14,7 +14,7 @@ use Rattle.paper.specs.Told.{Tells}
 use Rattle.lines.specs.Lines.{lineEnd, lineAt, Starts}
 use Rattle.lines.proofs.LinesLaws.{starts-first, starts-next, line-part}
 use Rattle.model.specs.Model.{places, Ambiguous}
-use Rattle.model_line.specs.Line.{Said, head, content, says}
+use Rattle.model_line.specs.Line.{content, says}
 use Rattle.model_clash.specs.Like.{Clash}
 use Rattle.compiled.specs.States.{State, element, inside, insides, states, stateAt, mayEnd, goesOn}
 use Rattle.model.specs.Documents.{Line, modelOf}

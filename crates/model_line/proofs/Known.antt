@@ -1,17 +1,17 @@
--- What is known of a line that says something: what it is made of, how it ends, and how long it is. Assumes nothing.
+-- What is known of a line that says something: what it is made of, and how long it is. Assumes nothing.
 use Prim.Native.Nat.{ℕ, _+_, _-_, _*_, _≤_, _<_}
-use mathlib.Core.Path.{_≡_, refl, ap, sym, _∙_}
-use mathlib.Core.List.{List, [], _∷_, _++_, append-assoc}
+use mathlib.Core.Path.{_≡_, refl, ap, _∙_}
+use mathlib.Core.List.{List}
 use mathlib.Core.Option.{Option, none, some}
 use native.Mathlib.Omega.{arith}
 use lib.Dec.{eqb}
-use lib.ListN.{length, drop, length-drop, length-append}
-use lib.Seq.{getD-append-seam, length-take-le}
+use lib.ListN.{length, drop, length-drop}
+use lib.Seq.{length-take-le}
 use borrow.Author.Tests.{eqb-true}
 use Rattle.paper.specs.Limits.{Limits, at}
 use Rattle.lines.specs.Number.{decimal}
-use Rattle.lines.specs.Lines.{tab, lf}
-use Rattle.lines.specs.Fields.{field, fields, entry, last, letters}
+use Rattle.lines.specs.Lines.{tab}
+use Rattle.lines.specs.Fields.{field, fields}
 use Rattle.lines.specs.declared.Number.the-variants.{Value}
 use Rattle.lines.specs.declared.Fields.{Fields}
 use Rattle.lines.specs.declared.Fields.the-variants.{Got, Wrong}
@@ -102,26 +102,3 @@ line-size L n x {a} {m} e hn ha =
     let k : length x - 1 - c .from ≤ length (drop (c .from) x) = omega (arith, length-drop (c .from) x) in
     let l = length-take-le (length x - 1 - c .from) (drop (c .from) x) k in
     omega (arith, t, l, s .from, s .room, field-end x (s .number), decimal-two a ha)
-
--- a line that says something ends in LF
-letters-last : (x : List ℕ) (t a b c : ℕ) → x ≡ letters t 2 a b c → (1 ≤ length x) × (at x (length x - 1) ≡ lf)
-unfolding letters last
-letters-last x t a b c e =
-    let p = t ∷ (entry a ++ entry b) in
-    let q : x ≡ p ++ (lf ∷ []) = e ∙ ap (λ y. t ∷ y) (sym (append-assoc (entry a) (entry b) (lf ∷ []))) in
-    let l = ap length q ∙ length-append p (lf ∷ []) in
-    let k : length x - 1 ≡ length p = omega (arith, l) in
-    (omega (arith, l), ap (at x) k ∙ ap (λ y. at y (length p)) q ∙ getD-append-seam p lf [] 0)
-
-abbrev Ended : List ℕ → Said → Type 0
-Ended x s = (s ≡ misshapen → ⊥) → (1 ≤ length x) × (at x (length x - 1) ≡ lf)
-
-ended : (L : Limits) (n : ℕ) (x : List ℕ) (s : Said) → Shown L n x s → Ended x s
-ended L n x (head y s) h g =
-    let m = letters-shown 2 y s (h .third) x (h .numbers) in
-    letters-last x (at x 0) y s (h .third) (m .line)
-ended L n x (content a m) h g = let s = split-shown x (h .cut) in (omega (arith, s .room), s .last)
-ended L n x misshapen h g = absurd (g refl)
-
-pub line-ended : (L : Limits) (n : ℕ) (x : List ℕ) → (says L n x ≡ misshapen → ⊥) → (1 ≤ length x) × (at x (length x - 1) ≡ lf)
-line-ended L n x g = ended L n x (says L n x) (shown L n x) g

@@ -58,9 +58,6 @@ field-ended x i h l =
 
 -- an M line is its letter, its symbol and its token field
 module _ (x : List ℕ) {a i : ℕ} (h : splitOf x ≡ Field a i) where
-  split-small : a ≤ mostNumber
-  split-small = field-shown x 1 (split-shown x h .number) .0
-
   split-shaped : x ≡ modelLine a (tokenField x i)
   unfolding modelLine
   split-shaped =
@@ -116,9 +113,6 @@ module _ (L : Limits) (n : ℕ) (x : List ℕ) where
   -- a line says a header exactly if it is one: `D¦symbols¦start`
   pub head-shape : (y s : ℕ) → y ≤ mostNumber → s ≤ mostNumber → says L n x ≡ head y s ↔ x ≡ letters letterD 2 y s 0
   head-shape y s hy hs = (head-shaped L n x, λ e. ap (says L n) e ∙ letters-head L n y s hy hs)
-
-  pub content-small : {a : ℕ} {m : Model} → says L n x ≡ content a m → a ≤ mostNumber
-  content-small e = split-small x (says-content L n x e .cut)
 
   pub content-shaped : {a : ℕ} {m : Model} → says L n x ≡ content a m →
       (f : List ℕ) × (x ≡ modelLine a f) × (modelIn L n f ≡ some m)

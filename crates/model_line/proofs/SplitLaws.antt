@@ -66,7 +66,7 @@ pub record Apart (x : List ℕ) (a i : ℕ) : Type 0 where
   pub from : i ≡ end + 1
   pub room : i < length x
 
-not-field : {a i : ℕ} → Misshapen ≡ Field a i → ⊥
+pub not-field : {a i : ℕ} → Misshapen ≡ Field a i → ⊥
 not-field e = let z : _≡_ {A = ℕ} 0 1 = cc in omega arith
 
 apart : (x : List ℕ) (a i e : ℕ) → at x 0 ≡ letterM → at x (length x - 1) ≡ lf → field x 1 ≡ Value a e → at x e ≡ tab → i ≡ e + 1 →

@@ -54,7 +54,7 @@ unfolding faultAt
 fault-verdict L ls zero = head-verdict L (saidAt ls 0)
 fault-verdict L ls (suc k) = line-verdict (symbolsOf (saidAt ls 0)) (modelsOf (take (suc k) ls)) (saidAt ls (suc k))
 
-refused-not-sizes : {n d p y s k : ℕ} → sizes y s k ≡ refused n d p → ⊥
+pub refused-not-sizes : {n d p y s k : ℕ} → sizes y s k ≡ refused n d p → ⊥
 refused-not-sizes e = let z : _≡_ {A = ℕ} 0 1 = cc in omega arith
 
 module _ (L : Limits) (s : List ℕ) where

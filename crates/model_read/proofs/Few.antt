@@ -15,18 +15,19 @@ use Rattle.compiled.specs.Counts.{count}
 use Rattle.compiled.specs.Valid.{GoodLines, noLine, oneMore}
 use Rattle.compiled.proofs.Lines.{none-some, model-here, model-later, model-cases}
 
--- counting below n
-abbrev bit : Bool → ℕ
-bit b = cond b 1 0
+-- a test counts 1 or 0
+abbrev pub one : Bool → ℕ
+one b = cond b 1 0
 
-count-most : (n : ℕ) (p : ℕ → Bool) → count n p ≤ n
+pub one-most : (b : Bool) → one b ≤ 1
+one-most true = omega arith
+one-most false = omega arith
+
+-- counting below n
+pub count-most : (n : ℕ) (p : ℕ → Bool) → count n p ≤ n
 unfolding count
 count-most zero p = omega arith
-count-most (suc n) p = let z = count-most n p in let y = one (p n) in omega arith
-  where
-    one : (b : Bool) → cond b 1 0 ≤ 1
-    one true = omega arith
-    one false = omega arith
+count-most (suc n) p = omega (arith, count-most n p, one-most (p n))
 
 count-none : (n : ℕ) → count n (λ i. false) ≡ 0
 unfolding count
@@ -38,7 +39,7 @@ unfolding count
 count-same zero p q h = refl
 count-same (suc n) p q h =
     let z = count-same n p q (λ i l. h i (omega arith)) in
-    let y = ap bit (h n (omega arith)) in
+    let y = ap one (h n (omega arith)) in
     omega arith
 
 -- one number more passes
@@ -49,12 +50,12 @@ count-more zero p q a e f h l = absurd (omega arith)
 count-more (suc n) p q a e f h l = by-cases (ℕ-discrete a n)
     (λ z.
     let c = count-same n p q (λ i b. h i (λ w. omega arith)) in
-    let x = ap bit (ap p (sym z) ∙ e) in
-    let y = ap bit (ap q (sym z) ∙ f) in
+    let x = ap one (ap p (sym z) ∙ e) in
+    let y = ap one (ap q (sym z) ∙ f) in
     omega arith)
     (λ d.
     let c = count-more n p q a e f h (omega arith) in
-    let y = ap bit (h n (λ w. d (sym w))) in
+    let y = ap one (h n (λ w. d (sym w))) in
     omega arith)
 
 -- the model of a symbol with one line more

@@ -5,7 +5,7 @@ use mathlib.Core.Logic.{inl, inr}
 use mathlib.Core.List.{List, [], _∷_, _++_}
 use native.Mathlib.Nat.{suc-mul, mul-le-mul}
 use native.Mathlib.Omega.{arith}
-use lib.ListN.{length, getD, take, length-append}
+use lib.ListN.{length, take, length-append}
 use Rattle.paper.specs.Limits.{Limits}
 use Rattle.paper.specs.Told.{refused, sizes}
 use Rattle.paper.specs.declared.Refusal.{Refusal}
@@ -20,9 +20,9 @@ use Rattle.model_read.specs.Text.{HeadWrong, noHead, modelFirst, headRan
 use Rattle.model_read.specs.Text.{WrongAt, WellFormed}
 use Rattle.model_read.specs.declared.Survey.{Survey}
 use Rattle.model_read.specs.declared.Survey.the-variants.{Sizes, Refused}
-use Rattle.model_read.proofs.Exact.{Surveyed, refusedWith, good, surveyed, survey-sizes}
+use Rattle.model_read.proofs.Exact.{refused-not-sizes, Surveyed, refusedWith, good, surveyed, survey-sizes}
 use Rattle.model_read.proofs.Said.{symbols-said, symbols-head, said-symbols, said-places}
-use Rattle.model_read.proofs.Models.{models-first, models-more, models-at, models-all, new-model}
+use Rattle.model_read.proofs.Models.{models-first, models-more, models-all, new-model}
 use Rattle.model_read.proofs.Few.{lines-few}
 
 -- a header without a fault, and an M line without a fault behind others
@@ -41,22 +41,20 @@ pub record ModelLine (n : ℕ) (before : List Line) (x : Said) : Type 0 where
   pub below : symbol < n
   pub new : ¬ Modelled before symbol
 
-above : {a b : ℕ} → (a ≤ b → ⊥) → b < a
-above h = omega arith
-
 pub head-right : (L : Limits) (x : Said) → ¬ HeadWrong L x → HeadLine L x
 head-right L (head y t) n =
     let a : (y ≡ 0) → ⊥ = λ e. n (headRange (inl e)) in
     let b : (L .symbols < y) → ⊥ = λ e. n (headRange (inr (inl e))) in
     let c : (y ≤ t) → ⊥ = λ e. n (headRange (inr (inr e))) in
-    record { symbols = y; start = t; says = refl; some = omega arith; few = omega arith; below = above c }
+    record { symbols = y; start = t; says = refl; some = omega arith; few = omega arith; below = omega arith }
 head-right L (content a m) n = absurd (n modelFirst)
 head-right L misshapen n = absurd (n noHead)
 
 pub line-right : (n : ℕ) (before : List Line) (x : Said) → ¬ LineWrong n before x → ModelLine n before x
 line-right n before (head y t) w = absurd (w secondHead)
 line-right n before (content a m) w =
-    record { symbol = a; model = m; says = refl; below = above (λ h. w (symbolRange h)); new = λ h. w (symbolAgain h) }
+    let b : (n ≤ a) → ⊥ = λ h. w (symbolRange h) in
+    record { symbol = a; model = m; says = refl; below = omega arith; new = λ h. w (symbolAgain h) }
 line-right n before misshapen w = absurd (w noShape)
 
 -- the first k lines are without a fault
@@ -162,12 +160,6 @@ module _ (L : Limits) (s : List ℕ) where
     pub well-first : modelsOf (take 1 (saidBy L s)) ≡ []
     well-first = models-first (saidBy L s) (well-head .says)
 
-    pub well-model : (k : ℕ) (d : Line) {a : ℕ} {m : Model} → saidAt (saidBy L s) (suc k) ≡ content a m → suc k < length (saidBy L s)
-        → getD (modelsOf (saidBy L s)) k d ≡ record { of = a; model = m }
-    well-model k d e h =
-        let i : length (modelsOf (take (suc k) (saidBy L s))) ≡ k = omega (arith, well-to k (omega arith) .rows) in
-        rw i at (models-at (saidBy L s) (suc k) d e h)
-
     pub well-lines : GoodLines (symbolsIn L s) (modelsOf (saidBy L s))
     well-lines = rw (models-all (saidBy L s)) at (well-all .lines)
 
@@ -194,11 +186,8 @@ pub record Sized (L : Limits) (s : List ℕ) (y t n : ℕ) : Type 0 where
   pub states : n ≡ length (states (symbolsIn L s) (modelsOf (saidBy L s)))
   pub few : n ≤ L .states
 
-sizes-refused : {n d p y t k : ℕ} → sizes y t k ≡ refused n d p → ⊥
-sizes-refused e = let z : _≡_ {A = ℕ} 0 1 = cc in omega arith
-
 sized : (L : Limits) (s : List ℕ) {y t n : ℕ} → Surveyed L s → sizes y t n ≡ surveyTold L s → Sized L s y t n
-sized L s {y} {t} {n} (refusedWith r g) e = absurd (sizes-refused (e ∙ g))
+sized L s {y} {t} {n} (refusedWith r g) e = absurd (refused-not-sizes (e ∙ g))
 sized L s {y} {t} {n} (good w h) e =
     let q = e ∙ survey-sizes L s w h in
     let a : y ≡ symbolsIn L s = cc in

@@ -7,7 +7,7 @@ use mathlib.Core.List.{List, [], _∷_, _++_, append-assoc}
 use native.Mathlib.Decide.{decLt}
 use native.Mathlib.Omega.{arith}
 use lib.ListN.{length, getD, take, drop, length-append, take-append-drop, List·getD-append}
-use lib.Seq.{take-suc, take-length, split-at, getD-append-seam}
+use lib.Seq.{take-suc, take-length, getD-append-seam}
 use Rattle.model.specs.Model.{Model, empty}
 use Rattle.model_line.specs.Line.{Said, head, content, misshapen}
 use Rattle.compiled.specs.States.{insides, allInsides, states}
@@ -24,7 +24,7 @@ models-append (head y t ∷ xs) ys = models-append xs ys
 models-append (content a m ∷ xs) ys = ap (λ (r : List Line). record { of = a; model = m } ∷ r) (models-append xs ys)
 models-append (misshapen ∷ xs) ys = models-append xs ys
 
--- behind a header none, behind one more M line one more, which is that M line among all; and at the end all
+-- behind a header none, behind one more M line one more; and at the end all
 pub models-first : (ls : List Said) {y t : ℕ} → saidAt ls 0 ≡ head y t → modelsOf (take 1 ls) ≡ []
 unfolding modelsOf
 models-first [] e = refl
@@ -36,17 +36,6 @@ unfolding modelsOf
 models-more ls k {a} {m} e h =
     ap modelsOf (take-suc ls k misshapen h) ∙ models-append (take k ls) (saidAt ls k ∷ [])
     ∙ ap (λ (x : Said). modelsOf (take k ls) ++ modelsOf (x ∷ [])) e
-
-pub models-at : (ls : List Said) (k : ℕ) (d : Line) {a : ℕ} {m : Model} → saidAt ls k ≡ content a m → k < length ls
-    → getD (modelsOf ls) (length (modelsOf (take k ls))) d ≡ record { of = a; model = m }
-unfolding modelsOf
-models-at ls k d {a} {m} e h =
-    let ln : Line = record { of = a; model = m } in
-    let p : modelsOf ls ≡ modelsOf (take k ls) ++ (ln ∷ modelsOf (drop (suc k) ls)) =
-    ap modelsOf (split-at ls k misshapen h) ∙ models-append (take k ls) (saidAt ls k ∷ drop (suc k) ls)
-    ∙ ap (λ (x : Said). modelsOf (take k ls) ++ modelsOf (x ∷ drop (suc k) ls)) e in
-    ap (λ (ms : List Line). getD ms (length (modelsOf (take k ls))) d) p
-    ∙ getD-append-seam (modelsOf (take k ls)) ln (modelsOf (drop (suc k) ls)) d
 
 pub models-all : (ls : List Said) → modelsOf (take (length ls) ls) ≡ modelsOf ls
 models-all ls = ap modelsOf (take-length ls)

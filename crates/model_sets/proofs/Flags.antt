@@ -10,7 +10,7 @@ use borrow.Author.Tests.{eq-eqb, ne-eqb}
 use lib.ListN.{length, length-append}
 use lib.Dec.{T, eqb, eqb·suc-zero}
 use Rattle.model.specs.Model.{Model, symbol, empty, sequence, choice, star, maybe, plus, symbols, mark}
-use Rattle.model.specs.Sets.{nullable, first, last, follow}
+use Rattle.model.specs.Sets.{nullable, first, last}
 use Rattle.model.proofs.Families.{first-has, last-has}
 use Rattle.model.proofs.Places.{has-inside}
 use Rattle.model.proofs.Tests.{test-first, test-last}

@@ -24,12 +24,13 @@ use Rattle.postfix.specs.Field.{ahead, tokensOf, written, modelIn}
 use Rattle.postfix.specs.declared.Reading.{Reading}
 use Rattle.postfix.specs.declared.Reading.the-variants.{One}
 use Rattle.postfix.proofs.Reading.{the-type}
+use Rattle.postfix.proofs.TokenLaws.{none-some}
 use Rattle.postfix.proofs.Parts.{front, front-short}
 use Rattle.postfix.proofs.Stack.{left, left-cut, left-end, token-given}
 use Rattle.model_sets.specs.Sets.{flag, Room, Holds}
 use Rattle.model_sets.specs.Stack.{borne, total, ending, coming, Marks, Cells, Shows, Fits, Ready, Steps, bearing, Begins}
 use Rattle.model_sets.proofs.Flags.{mark-nullable}
-use Rattle.model_sets.proofs.Taken.{none-some, grows, one-left, then-some, read-total}
+use Rattle.model_sets.proofs.Taken.{grows, one-left, then-some, read-total}
 
 pub record Going (L : Limits) (n : ℕ) (f B₀ E₀ N₀ : List ℕ) (i : ℕ) (B E N F G : List ℕ) (d k : ℕ) : Type 0 where
   pub m : Model

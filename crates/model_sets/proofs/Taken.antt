@@ -15,6 +15,7 @@ use Rattle.model.specs.Postfix.{push, two, last, single, then, read}
 use Rattle.model.specs.declared.Token.{Token}
 use Rattle.model.specs.declared.Token.the-variants.{Symbol, Empty, Comma, Bar, Star, Query, Plus}
 use Rattle.model.proofs.Token.{the-type}
+use Rattle.postfix.proofs.TokenLaws.{none-some}
 use Rattle.model_sets.specs.Stack.{borne, total, bearing}
 use Rattle.model_sets.proofs.Flags.{total-two, borne-length}
 
@@ -23,9 +24,6 @@ pub data One (f : Model → Model) : List Model → List Model → Type 0 where
 
 pub data Two (f : Model → Model → Model) : List Model → List Model → Type 0 where
   both : (r l : Model) (q : List Model) → Two f (r ∷ (l ∷ q)) (f l r ∷ q)
-
-pub none-some : {A : Type 0} {a : A} → none ≡ some a → ⊥
-none-some e = let z : _≡_ {A = ℕ} 0 1 = cc in omega arith
 
 pub one-of : (f : Model → Model) (st st′ : List Model) → last f st ≡ some st′ → One f st st′
 one-of f [] st′ e = absurd (none-some e)

@@ -50,12 +50,12 @@ sign-digit b h g =
       ne-eqb b 43 (λ e. omega arith),
     )
 
-not-some : {A : Type 0} {a : A} → none ≡ some a → ⊥
-not-some e = let z : _≡_ {A = ℕ} 0 1 = cc in omega arith
+pub none-some : {A : Type 0} {a : A} → none ≡ some a → ⊥
+none-some e = let z : _≡_ {A = ℕ} 0 1 = cc in omega arith
 
 sign-space : {t : Token} (b : ℕ) → sign b ≡ some t → b ≡ space → ⊥
 unfolding sign
-sign-space {t} b h e = not-some (rw e at h)
+sign-space {t} b h e = none-some (rw e at h)
 
 sign-no-digit : {t : Token} (b : ℕ) → sign b ≡ some t → 10 ≤ digit b
 sign-no-digit {t} b h =
@@ -63,7 +63,7 @@ sign-no-digit {t} b h =
     (λ u.
     let d = ltb-true (digit b) 10 u in
     let e = byte-digit b d in
-    absurd (not-some (sym (sign-digit b (omega arith) (omega arith)) ∙ h)))
+    absurd (none-some (sym (sign-digit b (omega arith) (omega arith)) ∙ h)))
     (λ u. ltb-false (digit b) 10 u)
 
 -- a part that begins with a sign is that sign, if it has no other byte

@@ -17,6 +17,7 @@ use Rattle.rule_line.specs.declared.Line.the-variants.{Head}
 use Rattle.rule_read.specs.Text.{markOf, ruleOf, marksOf, rulesOf, symbolsOf, statesOf, headFault, faultAt, TooSoon}
 use Rattle.rule_read.specs.Work.{sayingAt, rowsOf}
 use Rattle.rule_read.proofs.Verdict.{HeadVerdict, shape, stateFirst, ruleFirst, size, none, head-fault, head-verdict, Right, state, rule, line-right, fault-behind}
+use Rattle.rule_read.proofs.ListLaws.{head-said}
 use Rattle.rule_read.proofs.Said.{Wide, wide-positive, rule-length, marks-more, rules-more}
 
 -- the head
@@ -30,17 +31,11 @@ head-right L l e = let (f, v) = head-verdict L l in go v (sym (head-fault L v) �
     go ruleFirst z = absurd (omega arith)
     go (size h) z = absurd (omega arith)
 
--- the head's counts, from what it says
-pub head-counts : (ls : List Line) {y n : ℕ} → sayingAt ls 0 ≡ Head y n → (symbolsOf ls ≡ y) × (statesOf ls ≡ n)
-unfolding symbolsOf statesOf
-head-counts [] {y} {n} e = let z : _≡_ {A = ℕ} 0 1 = cc in absurd (let w : ⊥ = omega arith in w)
-head-counts (x ∷ ls) e = (rw e refl, rw e refl)
-
 pub head-small : (L : Limits) (ls : List Line) → faultAt L ls 0 ≡ 0 → ¬ TooLarge L (symbolsOf ls) (statesOf ls) 0
 unfolding faultAt
 head-small L ls e =
     let (y, n, q, t) = head-right L (sayingAt ls 0) e in
-    let (a, b) = head-counts ls q in
+    let (a, b) = head-said ls q in
     rw (a, b) t
 
 -- the lines behind the head, up to line k, say m marks and r rules: a line each, and no rule before the last mark

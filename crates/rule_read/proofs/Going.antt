@@ -21,7 +21,8 @@ use Rattle.rule_read.specs.declared.Reading.{Reading}
 use Rattle.rule_read.specs.declared.Reading.the-variants.{Read, Refused}
 use Rattle.rule_read.proofs.Verdict.{head-fault, none, fault-behind}
 use Rattle.rule_read.proofs.Said.{Wide, line-there, line-missing, line-says}
-use Rattle.rule_read.proofs.Counting.{Counted, head-counts, rows, counted-first, counted-adds, counted-next, counted-marks, counted-rules, counted-short, counted-whole}
+use Rattle.rule_read.proofs.ListLaws.{head-said}
+use Rattle.rule_read.proofs.Counting.{Counted, rows, counted-first, counted-adds, counted-next, counted-marks, counted-rules, counted-short, counted-whole}
 use Rattle.rule_read.proofs.Storing.{fits-line, fronts-more}
 use Rattle.rule_read.proofs.Exact.{text-fault, text-short, text-table}
 
@@ -65,7 +66,7 @@ module _ (L : Limits) (wide : Wide (L .width)) where
   going-start {s} {y} {n} {at} {M} {W} h g =
       let z : faultAt L (saidBy s) 0 ≡ 0 = rw (h .says) (head-fault L (none (h .small))) in
       let c = counted-first L wide (saidBy s) (h .some) z in
-      let (a, b) = head-counts (saidBy s) (h .says) in
+      let (a, b) = head-said (saidBy s) (h .says) in
       let o : 0 * L .width ≡ 0 = omega arith in
       record {
         symbols = a;

@@ -1,5 +1,5 @@
 -- What reading a rule text tells: refusals 2 to 6 at the first faulty line, in it the lowest number; or the table that the text says.
-use Prim.Native.Nat.{ℕ, zero, suc, _+_, _*_, _/_, _≤_, _<_}
+use Prim.Native.Nat.{ℕ, zero, suc, _+_, _/_, _≤_, _<_}
 use mathlib.Core.Path.{_≡_}
 use mathlib.Core.Logic.{_≢_, _⊎_, ite, Dec·not}
 use mathlib.Core.List.{List, [], _∷_, _++_, map}

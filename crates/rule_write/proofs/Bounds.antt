@@ -8,6 +8,7 @@ use native.Mathlib.Omega.{arith}
 use lib.ListN.{length}
 use Rattle.paper.specs.Limits.{Limits, at}
 use Rattle.table.specs.Check.{Misshapen, OutOfRange, Sound}
+use Rattle.table.proofs.Range.{symbols-few, states-few}
 
 at-most : {a b : ℕ} → (a < b → ⊥) → b ≤ a
 at-most h = omega arith
@@ -43,15 +44,6 @@ module _ (most : ℕ) {y n k a b q : ℕ} (hy : y ≤ most) (hn : n ≤ most) wh
       }
 
 module _ {L : Limits} {y : ℕ} {ms xs : List ℕ} (sound : Sound L y ms xs) where
-  pub symbols-most : y ≤ L .symbols
-  symbols-most = at-most (λ h. sound .sizeGood (inr (inl h)))
-
-  pub states-most : length ms ≤ L .states
-  states-most = at-most (λ h. sound .sizeGood (inr (inr (inl h))))
-
-  pub rules-most : length xs / L .width ≤ L .rules
-  rules-most = at-most (λ h. sound .sizeGood (inr (inr (inr h))))
-
   pub mark-least : {i : ℕ} → i < length ms → 2 ≤ at ms i
   mark-least {i} h = at-most (λ b. sound .marksGood i h (inl (omega arith)))
 
@@ -62,4 +54,4 @@ module _ {L : Limits} {y : ℕ} {ms xs : List ℕ} (sound : Sound L y ms xs) whe
       → RuleBelow most (at xs (j * L .width)) (at xs (j * L .width + 1)) (at xs (j * L .width + 2)) (at xs (j * L .width + 3))
   numbers-below most hy hn {j} h =
       let g = sound .rulesGood j h in
-      rule-below most {y = y} {n = length ms} (omega (arith, symbols-most)) (omega (arith, states-most)) (g .shaped) (g .inRange)
+      rule-below most {y = y} {n = length ms} (omega (arith, symbols-few L sound)) (omega (arith, states-few L sound)) (g .shaped) (g .inRange)

@@ -13,6 +13,7 @@ use Rattle.lines.proofs.NumberLaws.{decimal-two, length-one}
 use Rattle.lines.proofs.FieldLaws.{length-two, length-three}
 use Rattle.table.specs.Check.{tableChecked, Sound}
 use Rattle.table.proofs.Exact.{passes-exactly}
+use Rattle.table.proofs.Range.{symbols-few, states-few, rules-few}
 use Rattle.rule_line.specs.Line.{letterT, letterS, letterL, letterP, letterE, lineText}
 use Rattle.rule_line.specs.declared.Line.the-variants.{Head, State, Rule}
 use Rattle.rule_line.proofs.LineLaws.{rule-leaf, rule-join, rule-step}
@@ -21,7 +22,7 @@ use Rattle.rule_read.proofs.Said.{wide-limits}
 use Rattle.rule_write.specs.Write.{stateLine, ruleLine, statesText, rulesText, tableText}
 use Rattle.rule_write.proofs.RoundTrip.{read-write}
 use Rattle.rule_read.proofs.Passes.{text-passes}
-use Rattle.rule_write.proofs.Bounds.{RuleBelow, symbols-most, states-most, rules-most, mark-most, numbers-below}
+use Rattle.rule_write.proofs.Bounds.{RuleBelow, mark-most, numbers-below}
 
 -- numbers of one digit are below the first, and numbers of at most two below the second
 abbrev pub oneDigit : ℕ
@@ -89,8 +90,8 @@ unfolding tableText
 text-size L hy hn y ms xs sound =
     let n = length ms in
     let r = length xs / L .width in
-    let a = symbols-most sound in
-    let b = states-most sound in
+    let a = symbols-few L sound in
+    let b = states-few L sound in
     omega (
       arith,
       length-append (lineText (Head y n)) (statesText ms n ++ rulesText (L .width) xs r),
@@ -107,16 +108,13 @@ textBytes L = headBytes + stateBytes * L .states - oneDigit + ruleBytes * L .rul
 pub text-most : (L : Limits) → L .symbols < twoDigits → L .states < twoDigits → oneDigit ≤ L .states → (y : ℕ) (ms xs : List ℕ)
     → Sound L y ms xs → length (tableText (L .width) y ms xs) ≤ textBytes L
 text-most L hy hn ho y ms xs sound =
-    let a = states-most sound in
-    let b = rules-most sound in
+    let a = states-few L sound in
+    let b = rules-few L sound in
     omega (arith, text-size L hy hn y ms xs sound)
 
 -- at the paper's limits
 pub table-text-size : (y : ℕ) (ms xs : List ℕ) → tableChecked limits y ms xs ≡ passes → length (tableText (limits .width) y ms xs) ≤ 7138
 table-text-size y ms xs p = text-most limits (omega arith) (omega arith) (omega arith) y ms xs (passes-exactly limits y ms xs .0 p)
-
-pub text-fits : (y : ℕ) (ms xs : List ℕ) → tableChecked limits y ms xs ≡ passes → length (tableText (limits .width) y ms xs) ≤ limits .text
-text-fits y ms xs p = omega (arith, table-text-size y ms xs p)
 
 -- a rule text that is read
 pub read-text-size : (s : List ℕ) (y n r : ℕ) → textTold limits s ≡ holds y n r → length s ≤ 7138

@@ -14,6 +14,7 @@ use Rattle.paper.specs.First.{Clear}
 use Rattle.lines.specs.Number.{mostNumber}
 use Rattle.table.specs.Check.{TooLarge, tableChecked, Sound}
 use Rattle.table.proofs.Exact.{passes-exactly}
+use Rattle.table.proofs.Range.{symbols-few, states-few, rules-few}
 use Rattle.rule_line.specs.declared.Line.{Line}
 use Rattle.rule_line.proofs.LineLaws.{Sayable}
 use Rattle.rule_read.specs.Text.{saidBy, markOf, ruleOf, marksOf, rulesOf, symbolsOf, statesOf, faultAt, TooSoon, textTold}
@@ -26,7 +27,7 @@ use Rattle.rule_write.specs.Write.{stateLine, ruleLine, tableText}
 use Rattle.rule_write.proofs.TextOf.{said-text}
 use Rattle.rule_write.proofs.TableLines.{bodyLines, tableLines, table-text}
 use Rattle.rule_write.proofs.TableLines.{body-length, body-state, body-rule, body-states, body-rules, body-cases, body-marks, body-numbers}
-use Rattle.rule_write.proofs.Bounds.{symbols-most, states-most, rules-most, mark-least, mark-most, numbers-below}
+use Rattle.rule_write.proofs.Bounds.{mark-least, mark-most, numbers-below}
 
 module _ (L : Limits) (wide : Wide (L .width)) (y : ℕ) (ms xs : List ℕ) (sound : Sound L y ms xs) where
   abbrev n : ℕ
@@ -56,10 +57,10 @@ module _ (L : Limits) (wide : Wide (L .width)) (y : ℕ) (ms xs : List ℕ) (sou
   -- each line can be said
   sayable : L .symbols ≤ mostNumber → L .states ≤ mostNumber → (k : ℕ) → k < length (tableLines (L .width) y ms xs)
       → Sayable (sayingAt (tableLines (L .width) y ms xs) k)
-  sayable hy hn zero h = (omega (arith, symbols-most sound), omega (arith, states-most sound))
+  sayable hy hn zero h = (omega (arith, symbols-few L sound), omega (arith, states-few L sound))
   sayable hy hn (suc k) h =
       body-cases (L .width) ms xs n r Sayable k (omega (arith, body-length (L .width) ms xs n r))
-      (λ l. let m = mark-most sound l in (omega (arith, states-most sound), omega arith, omega arith))
+      (λ l. let m = mark-most sound l in (omega (arith, states-few L sound), omega arith, omega arith))
       (λ j l e.
       let b = numbers-below sound mostNumber hy hn l in
       (b .kind, omega (arith, b .left), omega (arith, b .right), omega (arith, b .target), b .none))
@@ -85,7 +86,7 @@ module _ (L : Limits) (wide : Wide (L .width)) (y : ℕ) (ms xs : List ℕ) (sou
       let f : j * L .width ≤ length xs = omega (arith, whole) in
       let e = front-rows wide xs j f in
       let g = sound .rulesGood j h in
-      rule (λ l. omega arith) (λ l. omega (arith, rules-most sound)) (g .inRange)
+      rule (λ l. omega arith) (λ l. omega (arith, rules-few L sound)) (g .inRange)
       (rw e (λ has. g .new (slice-has wide xs j f has)))
 
   clear : Clear (faultAt L (tableLines (L .width) y ms xs)) (length (tableLines (L .width) y ms xs))

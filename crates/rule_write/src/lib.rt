@@ -20,7 +20,8 @@ pub enum Writing {
 // Writes the lines of the states in order from `at` on, and answers where they end.
 fn write_states(out: &mut [u8], at: usize, marks: &[u16]) -> usize
     requires { ⌜ length (now marks) ≤ mostNumber ⌝ }
-    ensures { λ r. ⌜ Fit (now (out .entry)) at (statesText (now (marks .entry)) (length (now (marks .entry)))) r (now (out .exit)) ⌝ }
+    ensures { λ r. ⌜ Fit (now (out .entry)) at
+        (statesText (now (marks .entry)) (length (now (marks .entry)))) r (now (out .exit)) ⌝ }
 {
     let mut e = at;
     let mut i = 0;
@@ -34,8 +35,8 @@ fn write_states(out: &mut [u8], at: usize, marks: &[u16]) -> usize
 
 // Writes the lines of the rules in order from `at` on, and answers where they end.
 fn write_rules(out: &mut [u8], at: usize, rules: &[u16]) -> usize
-    ensures { λ r. ⌜ Fit (now (out .entry)) at
-        (rulesText (limits .width) (now (rules .entry)) (length (now (rules .entry)) / limits .width)) r (now (out .exit)) ⌝ }
+    ensures { λ r. ⌜ Fit (now (out .entry)) at (rulesText (limits .width) (now (rules .entry))
+        (length (now (rules .entry)) / limits .width)) r (now (out .exit)) ⌝ }
 {
     let n = rules.len() / paper::WIDTH;
     let mut e = at;
@@ -54,7 +55,8 @@ fn write_rules(out: &mut [u8], at: usize, rules: &[u16]) -> usize
 
 // Writes the text of a table: the table's refusals, then 1; the text stands at the front of the slice, the rest unchanged.
 pub fn write_text(symbols: u16, marks: &[u16], rules: &[u16], out: &mut [u8]) -> Writing
-    ensures { λ r. ⌜ Writes limits symbols (now (marks .entry)) (now (rules .entry)) (now (out .entry)) r (now (out .exit)) ⌝ }
+    ensures { λ r. ⌜ Writes limits symbols (now (marks .entry)) (now (rules .entry))
+        (now (out .entry)) r (now (out .exit)) ⌝ }
 {
     match table::check(symbols, marks, rules) {
         Checked::Refused(f) => Writing::Refused(f),

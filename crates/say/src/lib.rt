@@ -9,6 +9,12 @@ use lines::Number;
 use paper::Checked;
 use paper::Refusal;
 
+// No case's file has more bytes than this, and so none has more numbers.
+pub const CASE_BYTES: usize = 16384;
+
+// The slices that a case may write are full of this number first.
+pub const FILLER: u16 = 9;
+
 pub fn text(bytes: &[u8]) {
     io::write_all(STDOUT_FILENO, bytes);
 }
@@ -86,11 +92,11 @@ pub fn part<'a>(all: &'a [u16], a: usize, n: usize) -> &'a [u16]
     &all[a..len]
 }
 
-// Is each number of the slice still 9?
+// Is each number of the slice still FILLER?
 fn kept(numbers: &[u16]) -> bool {
     let mut i = 0;
     while i < numbers.len() {
-        if numbers[i] != 9 {
+        if numbers[i] != FILLER {
             return false;
         }
         i += 1;
@@ -98,14 +104,14 @@ fn kept(numbers: &[u16]) -> bool {
     true
 }
 
-// Says so where a slice of 9s has changed.
+// Says so where a slice of FILLERs has changed.
 pub fn changed(numbers: &[u16]) {
     if !kept(numbers) {
         text(b"\tslice changed");
     }
 }
 
-// A refusal, which must leave the slices of 9s as they were.
+// A refusal, which must leave the slices of FILLERs as they were.
 pub fn refused(f: Refusal, marks: &[u16], rules: &[u16]) {
     refusal(f);
     changed(marks);
@@ -134,7 +140,8 @@ fn push(out: &mut [u16], count: usize, v: u16) -> usize
 // Goes on by one number, or by one byte that is none.
 fn step(bytes: &[u8], at: usize, out: &mut [u16], count: usize) -> Cursor
     requires { ⌜ (at < length (now bytes)) × (count ≤ length (now out)) ⌝ }
-    ensures { λ r. ⌜ (at < r .at) × (r .count ≤ length (now (out .exit))) × (length (now (out .exit)) ≡ length (now (out .entry))) ⌝ }
+    ensures { λ r. ⌜ (at < r .at) × (r .count ≤ length (now (out .exit)))
+        × (length (now (out .exit)) ≡ length (now (out .entry))) ⌝ }
 {
     let found = lines::read_number(bytes, at);
     let Number::Value(a, end) = found else {

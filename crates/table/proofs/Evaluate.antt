@@ -34,14 +34,6 @@ module _ {R : Rule → Type 0} where
   base-of-has (atJoin {q = q} h k e) = (q, baseJoin h k e, here)
   base-of-has (atEps h e) = let (b, c, d) = base-of-has h in (b, c, step d e)
 
-  pub has-iff : {t : Tree} {q : ℕ} → Has R t q ↔ ((b : ℕ) × Base R t b × Reach R b q)
-  has-iff = (base-of-has, λ x. has-reach (has-of-base (x .1)) (x .2))
-
-  -- a set of states that has the base states and is closed under ε rules has every state of the tree
-  pub has-closed : (P : ℕ → Type 0) → ((q r : ℕ) → P q → R (epsRule q r) → P r) → {t : Tree}
-      → ((b : ℕ) → Base R t b → P b) → {q : ℕ} → Has R t q → P q
-  has-closed P c h k = let (b, bt, d) = base-of-has k in reach-closed P c (h b bt) d
-
   -- a leaf has the targets of its leaf rules and all that ε steps reach from them
   pub has-leaf : {a q : ℕ} → Has R (leaf a) q ↔ ((b : ℕ) × R (leafRule a b) × Reach R b q)
   has-leaf = (λ h. let (b, c, d) = base-of-has h in (b, inv c, d), λ x. has-reach (atLeaf (x .1)) (x .2))

@@ -2,14 +2,29 @@
 -- nothing.
 use Prim.Native.Nat.{ℕ, _+_, _*_, _/_, _≤_, _<_}
 use mathlib.Core.Path.{_≡_}
-use mathlib.Core.Logic.{_≢_, inl, inr, by-cases}
+use mathlib.Core.Logic.{_≢_, _↔_, _⊎_, inl, inr, by-cases}
 use mathlib.Core.List.{List}
 use native.Mathlib.Decide.{ℕ-discrete, decLe, decLt}
 use native.Mathlib.Omega.{arith}
 use lib.ListN.{length}
 use Rattle.paper.specs.Limits.{Limits, at, leafKind, joinKind, epsKind}
-use Rattle.table.specs.Check.{Sound}
+use Rattle.table.specs.Rules.{sortOf, finalOf}
+use Rattle.table.specs.Check.{BadMark, Sound}
 use Rattle.table.proofs.Rows.{row-below}
+
+-- a mark is bad exactly if it is outside 2 to 7
+pub bad-mark-range : (m : ℕ) → BadMark m ↔ ((m < 2) ⊎ (7 < m))
+unfolding sortOf finalOf
+bad-mark-range m = (to, back)
+  where
+    to : BadMark m → (m < 2) ⊎ (7 < m)
+    to (inl e) = inl (omega arith)
+    to (inr (inl e)) = inr (omega arith)
+    to (inr (inr e)) = absurd (omega arith)
+
+    back : (m < 2) ⊎ (7 < m) → BadMark m
+    back (inl e) = inl (omega arith)
+    back (inr e) = inr (inl (omega arith))
 
 module _ (L : Limits) {symbols : ℕ} {ms xs : List ℕ} (s : Sound L symbols ms xs) where
   pub states-few : length ms ≤ L .states

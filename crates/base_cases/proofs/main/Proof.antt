@@ -1,3 +1,4 @@
+-- `base_cases::main` is safe and ends. The loop's invariant: the case's number is at most one more than there are cases of tables.
 use Prim.Native.Nat.{_≤_, _-_}
 use borrow.Author.Needs.{needs}
 use Rattle.base_cases.proofs.main.Statement.{statement}

@@ -1,3 +1,4 @@
+-- `base_measure::chain` is safe and ends. The loop's invariant: i is from 1 to the limit of nodes, and the slice keeps its length.
 use Rattle.paper.specs.Limits.{limits}
 use Prim.Native.Nat.{_≤_, _-_}
 use mathlib.Core.Path.{_≡_}

@@ -1,3 +1,4 @@
+-- `base_measure::fullest` is safe and ends: the text that is read stands in the slice by the test before.
 use mathlib.Core.Path.{refl}
 use native.Mathlib.Omega.{arith}
 use lib.ListN.{length-take}

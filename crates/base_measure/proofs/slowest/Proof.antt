@@ -1,3 +1,4 @@
+-- `base_measure::slowest` is safe and ends. The loop's invariant: i is at most the limit of nodes, and the slice has two numbers for each.
 use native.Mathlib.Omega.{arith}
 use Rattle.paper.specs.Limits.{limits}
 use Prim.Native.Nat.{_*_, _-_, _≤_}

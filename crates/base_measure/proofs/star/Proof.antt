@@ -1,3 +1,4 @@
+-- `base_measure::star` is safe and ends. The loop's invariant: q is at most the number of symbols, and there is a mark for each state.
 use native.Mathlib.Omega.{arith}
 use Prim.Native.Nat.{_≤_, _-_}
 use mathlib.Core.Path.{_≡_, refl}

@@ -1,3 +1,4 @@
+-- `base_measure::star_ends` is safe and ends. The loop's invariant: q is a state from 23 on or the end 47, and the slice keeps its length.
 use native.Mathlib.Omega.{arith}
 use Prim.Native.Nat.{_≤_, _-_}
 use mathlib.Core.Path.{_≡_}

@@ -1,3 +1,4 @@
+-- `base_measure::write_rules` is safe and ends. The loop's invariant: i is at most the limit of rules, and the slice keeps its length.
 use native.Mathlib.Omega.{arith}
 use Rattle.paper.specs.Limits.{limits}
 use Rattle.put.proofs.PutLaws.{wrote-length}

@@ -1,3 +1,4 @@
+-- `base_measure::write_states` is safe and ends. The loop's invariant: q is at most the limit of states, and the slice keeps its length.
 use native.Mathlib.Omega.{arith}
 use Rattle.paper.specs.Limits.{limits}
 use Rattle.put.proofs.PutLaws.{wrote-length}

@@ -1,3 +1,4 @@
+-- `bits::clear` meets its contract: a bit that is 0 already, or behind the end, stays so, and else its power is taken off its word.
 use denote.Ref.{now}
 use mathlib.Core.Path.{_∙_, sym}
 use Rattle.bits.proofs.Sets.{made-same, bit-read, clear-made, clear-fits}

@@ -1,3 +1,4 @@
+-- `bits::get` meets its contract: behind the end every bit is 0, and else it is the bit of its word.
 use Rattle.bits.proofs.Sets.{bit-outside, bit-read}
 use borrow.Author.Needs.{needs}
 use Rattle.bits.proofs.get.Statement.{statement}

@@ -1,3 +1,4 @@
+-- `bits::put` meets its contract: a bit that is 1 already stays so, behind the end nothing is made, and else its power is added.
 use Prim.Native.Nat.{_/_}
 use denote.Ref.{now}
 use mathlib.Core.Path.{_∙_, sym}

@@ -1,16 +1,9 @@
+-- `inclusion_cases::compare` is safe and ends: what is loaded stays inside the slices, and both tables begin where `table_at` may look.
 use native.Mathlib.Omega.{arith}
 use lib.ListN.{length-take}
 use borrow.Author.Needs.{needs}
 use Rattle.inclusion_cases.proofs.compare.Statement.{statement}
 use Rattle.inclusion_cases.proofs.compare.Tie as tie
-use Rattle.inclusion_cases.proofs.compare.Reads as reads
-use Rattle.inclusion_cases.proofs.compare.Lts as lts
-use Rattle.inclusion_cases.proofs.at.Reads as at-reads
-use Rattle.inclusion_cases.proofs.table_at.Reads as table-at-reads
-use Rattle.inclusion_cases.proofs.tell.Reads as tell-reads
-use Rattle.say.proofs.load.Reads as load-reads
-use Rattle.say.proofs.numbers.Reads as numbers-reads
-use Rattle.say.proofs.part.Reads as part-reads
 
 slice-aggregate-load : tie.Need-slice-aggregate-load
 slice-aggregate-load c = search needs

@@ -1,13 +1,10 @@
+-- `inclusion_cases::height` is safe and ends. The loop's invariant: i is at most the number of nodes, and the heights keep their length.
 use mathlib.Core.Path.{_≡_}
 use Prim.Native.Nat.{_≤_, _-_, _/_}
 use lib.ListN.{length}
 use borrow.Author.Needs.{needs}
 use Rattle.inclusion_cases.proofs.height.Statement.{statement}
 use Rattle.inclusion_cases.proofs.height.Tie as tie
-use Rattle.inclusion_cases.proofs.height.Reads as reads
-use Rattle.inclusion_cases.proofs.height.Lts as lts
-use Rattle.inclusion_cases.proofs.node_height.Reads as node-height-reads
-use Rattle.inclusion_cases.proofs.put.Reads as put-reads
 
 abbrev Inv-loop : tie.InvT-loop
 Inv-loop nodes heights₀ last₀ i₀ heights last i = (i ≤ length nodes / 2) × (length heights ≡ length heights₀)

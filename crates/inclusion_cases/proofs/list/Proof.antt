@@ -1,12 +1,10 @@
+-- `inclusion_cases::list` is safe and ends. The loop's invariant: i is at most the length of the nodes.
 use native.Mathlib.Omega.{arith}
 use Prim.Native.Nat.{_≤_, _-_}
 use lib.ListN.{length}
 use borrow.Author.Needs.{needs}
 use Rattle.inclusion_cases.proofs.list.Statement.{statement}
 use Rattle.inclusion_cases.proofs.list.Tie as tie
-use Rattle.inclusion_cases.proofs.list.Reads as reads
-use Rattle.inclusion_cases.proofs.list.Lts as lts
-use Rattle.say.proofs.field.Reads as field-reads
 
 abbrev Inv-loop : tie.InvT-loop
 Inv-loop nodes i₀ i = i ≤ length nodes

@@ -1,10 +1,8 @@
+-- `inclusion_cases::main` is safe and ends. The loop's invariant: the case's number is at most one more than there are cases.
 use Prim.Native.Nat.{_≤_, _-_}
 use borrow.Author.Needs.{needs}
 use Rattle.inclusion_cases.proofs.main.Statement.{statement}
 use Rattle.inclusion_cases.proofs.main.Tie as tie
-use Rattle.inclusion_cases.proofs.main.Reads as reads
-use Rattle.inclusion_cases.proofs.main.Lts as lts
-use Rattle.inclusion_cases.proofs.compare.Reads as compare-reads
 
 abbrev Inv-loop : tie.InvT-loop
 Inv-loop n₀ n = n ≤ 58

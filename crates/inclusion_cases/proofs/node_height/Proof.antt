@@ -1,11 +1,9 @@
+-- `inclusion_cases::node_height` is safe and ends: both numbers of the node stand in the slice, and the greatest height is not raised.
 use Prim.Native.Nat.{_+_, _*_}
 use native.Mathlib.Omega.{arith}
 use borrow.Author.Needs.{needs}
 use Rattle.inclusion_cases.proofs.node_height.Statement.{statement}
 use Rattle.inclusion_cases.proofs.node_height.Tie as tie
-use Rattle.inclusion_cases.proofs.node_height.Reads as reads
-use Rattle.inclusion_cases.proofs.node_height.Lts as lts
-use Rattle.inclusion_cases.proofs.at.Reads as at-reads
 
 mul-a : tie.Need-mul-a
 mul-a c = search needs

@@ -1,3 +1,4 @@
+-- `inclusion_cases::show` is safe and ends: the nodes and what stands behind them are parts of the room by the test before.
 use Prim.Native.Nat.{_*_}
 use mathlib.Core.Path.{sym}
 use denote.Ref.{now}
@@ -6,14 +7,6 @@ use lib.Seq.{length-take-le}
 use borrow.Author.Needs.{needs}
 use Rattle.inclusion_cases.proofs.show.Statement.{statement}
 use Rattle.inclusion_cases.proofs.show.Tie as tie
-use Rattle.inclusion_cases.proofs.show.Reads as reads
-use Rattle.inclusion_cases.proofs.show.Lts as lts
-use Rattle.inclusion_cases.proofs.height.Reads as height-reads
-use Rattle.inclusion_cases.proofs.judge.Reads as judge-reads
-use Rattle.inclusion_cases.proofs.list.Reads as list-reads
-use Rattle.say.proofs.changed.Reads as changed-reads
-use Rattle.say.proofs.field.Reads as field-reads
-use Rattle.say.proofs.text.Reads as text-reads
 
 slice-aggregate-text : tie.Need-slice-aggregate-text
 slice-aggregate-text c = search needs

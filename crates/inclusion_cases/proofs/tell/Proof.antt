@@ -1,16 +1,7 @@
-use native.Mathlib.Omega.{arith}
-use lib.ListN.{length-take}
+-- `inclusion_cases::tell` is safe and ends: the inclusion test takes every slice, and each answer is told.
 use borrow.Author.Needs.{needs}
 use Rattle.inclusion_cases.proofs.tell.Statement.{statement}
 use Rattle.inclusion_cases.proofs.tell.Tie as tie
-use Rattle.inclusion_cases.proofs.tell.Reads as reads
-use Rattle.inclusion_cases.proofs.tell.Lts as lts
-use Rattle.inclusion.proofs.include.Reads as include-reads
-use Rattle.inclusion_cases.proofs.show.Reads as show-reads
-use Rattle.say.proofs.changed.Reads as changed-reads
-use Rattle.say.proofs.part.Reads as part-reads
-use Rattle.say.proofs.refusal.Reads as refusal-reads
-use Rattle.say.proofs.text.Reads as text-reads
 
 part-requires : tie.Need-part-requires
 part-requires c κs = search needs

@@ -1,3 +1,4 @@
+-- `model_cases::show` is safe and ends: the text that is written out stands in the slice by the test before.
 use native.Mathlib.Omega.{arith}
 use lib.ListN.{length-take}
 use borrow.Author.Needs.{needs}

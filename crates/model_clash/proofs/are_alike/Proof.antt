@@ -1,3 +1,4 @@
+-- `model_clash::are_alike` meets its contract: places that are not there, bear two symbols or cannot come next are not alike.
 use native.Mathlib.Omega.{arith}
 use Rattle.paper.proofs.TellsLaws.{tells-no}
 use Rattle.model_clash.proofs.LikeLaws.{like-tells}

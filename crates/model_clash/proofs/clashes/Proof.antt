@@ -1,3 +1,4 @@
+-- `model_clash::clashes` meets its contract. The loop's invariant: after no state from `from` on before q are there two like places.
 use Prim.Native.Nat.{_-_, _≤_}
 use native.Mathlib.Omega.{arith}
 use Rattle.paper.specs.Limits.{limits}

@@ -1,3 +1,4 @@
+-- `model_clash::comes_next` meets its contract: what lies behind the slice's end is 0, and else the flag tells.
 use native.Mathlib.Omega.{arith}
 use Rattle.paper.proofs.TellsLaws.{tells-no, tells-ne}
 use Rattle.model_clash.proofs.LikeLaws.{none-behind}

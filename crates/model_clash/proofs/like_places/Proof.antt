@@ -1,3 +1,4 @@
+-- `model_clash::like_places` meets its contract. The loops' invariants: no two places before y are alike, and none before z is like y.
 use Prim.Native.Nat.{_-_, _≤_, _<_}
 use mathlib.Core.Path.{_≡_, refl}
 use native.Mathlib.Omega.{arith}

@@ -1,3 +1,4 @@
+-- `model_fill::add_line` meets its contract: a line that is none and a model with no room add nothing, else its states stand (Adding).
 use denote.Ref.{now}
 use mathlib.Core.Path.{sym, _∙_, refl}
 use native.Mathlib.Omega.{arith}

@@ -1,3 +1,4 @@
+-- `model_fill::add_lines` meets its contract. The loop's invariant: the states of the first k lines are kept, none of which is ambiguous.
 use Prim.Native.Nat.{_-_}
 use mathlib.Core.Path.{_≡_, refl, sym, _∙_}
 use native.Mathlib.Omega.{arith}

@@ -1,3 +1,4 @@
+-- `model_fill::are_long` meets its contract: each answer by the first length that is wrong, or by all four.
 use Rattle.paper.proofs.TellsLaws.{tells-no, tells-eq}
 use Rattle.model_fill.proofs.are_long.Statement.{statement}
 use Rattle.model_fill.proofs.are_long.Tie as tie

@@ -1,3 +1,4 @@
+-- `model_fill::clear` meets its contract: four filled slices keep the states of no line.
 use mathlib.Core.Path.{refl}
 use Rattle.model_fill.proofs.ClearLaws.{cleared}
 use borrow.Author.Needs.{needs}

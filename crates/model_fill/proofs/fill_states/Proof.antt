@@ -1,3 +1,4 @@
+-- `model_fill::fill_states` meets its contract: each answer by the law of `FillLaws` for it.
 use mathlib.Core.Path.{refl}
 use borrow.Author.Tests.{not-true, not-false}
 use Rattle.paper.specs.Limits.{limits}

@@ -1,3 +1,4 @@
+-- `model_read::bad_head` meets its contract: each answer by the first of the three tests that tells.
 use mathlib.Core.Logic.{inl, inr}
 use Rattle.paper.specs.Limits.{limits}
 use Rattle.paper.proofs.TellsLaws.{tells-yes}

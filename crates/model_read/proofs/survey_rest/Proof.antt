@@ -1,3 +1,4 @@
+-- `model_read::survey_rest` meets its contract. The loop's invariant: the first k lines are right, and their states are counted.
 use Prim.Native.Nat.{_-_}
 use native.Mathlib.Omega.{arith}
 use lib.ListN.{length}

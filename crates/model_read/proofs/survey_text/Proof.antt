@@ -1,3 +1,4 @@
+-- `model_read::survey_text` meets its contract: a first line that is no good header is refused, else the lines behind it decide.
 use denote.Ref.{now}
 use borrow.Author.Needs.{needs}
 use Rattle.paper.specs.Limits.{limits}

@@ -1,3 +1,4 @@
+-- `model_sets::bear` meets its contract: only a symbol is written down.
 use native.Mathlib.Omega.{arith}
 use borrow.Author.Needs.{needs}
 use Rattle.model_sets.proofs.Taken.{bear-none, bear-one}

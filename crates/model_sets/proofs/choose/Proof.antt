@@ -1,3 +1,4 @@
+-- `model_sets::choose` meets its contract: by whether the flag is set.
 use Rattle.model_sets.proofs.Cells.{if-set, if-clear}
 use Rattle.model_sets.proofs.choose.Statement.{statement}
 use Rattle.model_sets.proofs.choose.Tie as tie

@@ -1,3 +1,4 @@
+-- `model_sets::clear` meets its contract. The loop's invariant: the flags from a on before j are 0, and the others are as they were.
 use Prim.Native.Nat.{_≤_, _-_}
 use native.Mathlib.Omega.{arith}
 use borrow.Author.Needs.{needs}

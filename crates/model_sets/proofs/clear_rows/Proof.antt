@@ -1,3 +1,4 @@
+-- `model_sets::clear_rows` meets its contract. The loop's invariant: the first p flags of each row before i are 0, the others as before.
 use Prim.Native.Nat.{_≤_, _-_, _+_}
 use native.Mathlib.Omega.{arith}
 use borrow.Author.Needs.{needs}

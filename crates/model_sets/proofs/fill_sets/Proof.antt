@@ -1,3 +1,4 @@
+-- `model_sets::fill_sets` meets its contract: with no model or no room nothing is changed, else the scan begins with cleared flags.
 use native.Mathlib.Omega.{arith}
 use borrow.Author.Needs.{needs}
 use Rattle.paper.specs.Limits.{limits}

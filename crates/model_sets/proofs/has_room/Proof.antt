@@ -1,3 +1,4 @@
+-- `model_sets::has_room` meets its contract: each answer by the first length that is too small, or by the last test.
 use native.Mathlib.Omega.{arith}
 use borrow.Author.Needs.{needs}
 use Rattle.paper.proofs.TellsLaws.{tells-no, tells-le}

@@ -1,3 +1,4 @@
+-- `model_sets::link` meets its contract. The loop's invariant: the positions from c on before i where a word may end are linked.
 use Prim.Native.Nat.{_≤_, _-_, _+_}
 use mathlib.Core.Path.{sym, subst}
 use mathlib.Core.Logic.{⊎-elim}

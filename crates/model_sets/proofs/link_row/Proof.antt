@@ -1,3 +1,4 @@
+-- `model_sets::link_row` meets its contract. The loop's invariant: the row has the flags from a on before y that the first row has.
 use Prim.Native.Nat.{_≤_, _-_, _+_}
 use mathlib.Core.Path.{subst, sym}
 use mathlib.Core.Logic.{⊎-elim}

@@ -1,3 +1,4 @@
+-- `model_sets::place` meets its contract: what is written is the step of a symbol.
 use native.Mathlib.Omega.{arith}
 use borrow.Author.Needs.{needs}
 use Rattle.paper.specs.Limits.{limits}

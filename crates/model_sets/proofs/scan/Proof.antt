@@ -1,3 +1,4 @@
+-- `model_sets::scan` meets its contract. The loop's invariant: the slices show the models on the stack, and the tokens left make the model.
 use Prim.Native.Nat.{_-_, suc}
 use mathlib.Core.Path.{_≡_, refl, sym, _∙_}
 use native.Mathlib.Omega.{arith}

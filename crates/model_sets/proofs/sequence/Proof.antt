@@ -1,3 +1,4 @@
+-- `model_sets::sequence` meets its contract: the links, the two clearings and the flag are the step of a comma.
 use native.Mathlib.Omega.{arith}
 use mathlib.Core.Path.{refl}
 use borrow.Author.Needs.{needs}

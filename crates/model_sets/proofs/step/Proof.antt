@@ -1,3 +1,4 @@
+-- `model_sets::step` meets its contract: for each token by the law of `Steps` for it.
 use native.Mathlib.Omega.{arith}
 use borrow.Author.Needs.{needs}
 use Rattle.paper.specs.Limits.{limits}

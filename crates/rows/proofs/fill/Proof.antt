@@ -1,3 +1,4 @@
+-- `rows::fill` meets its contract. The loop's invariant: the numbers from `from` on before i are v, and the others are as they were.
 use native.Mathlib.Omega.{arith}
 use Prim.Native.Nat.{_-_, _≤_}
 use mathlib.Core.Logic.{_⊎_, inl, inr}

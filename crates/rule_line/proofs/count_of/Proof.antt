@@ -1,3 +1,4 @@
+-- `rule_line::count_of` meets its contract: by the letter.
 use borrow.Author.Tests.{ne-eqb}
 use Rattle.rule_line.specs.Line.{count, letterT, letterS, letterL, letterP, letterE}
 use Rattle.rule_line.proofs.count_of.Statement.{statement}

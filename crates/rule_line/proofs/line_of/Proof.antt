@@ -1,3 +1,4 @@
+-- `rule_line::line_of` meets its contract: by the letter.
 use borrow.Author.Tests.{ne-eqb}
 use Rattle.rule_line.specs.Line.{says, letterT, letterS, letterL, letterP}
 use Rattle.rule_line.proofs.line_of.Statement.{statement}

@@ -1,3 +1,4 @@
+-- `rule_line::read_line` meets its contract: an empty line and a wrong letter are faulty at 0, else the line's numbers decide.
 use Prim.Native.Nat.{ℕ}
 use mathlib.Core.Path.{sym, _∙_}
 use native.Mathlib.Omega.{arith}

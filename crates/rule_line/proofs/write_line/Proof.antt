@@ -1,3 +1,4 @@
+-- `rule_line::write_line` meets its contract: by what the line says; of a faulty one nothing is written.
 use borrow.Author.Needs.{needs}
 use Rattle.rule_line.specs.Line.{lineText}
 use Rattle.rule_line.proofs.LineLaws.{wrote-nothing}

@@ -1,3 +1,4 @@
+-- `rule_line::write_rule` meets its contract: by the rule's kind.
 use borrow.Author.Needs.{needs}
 use Rattle.rule_line.proofs.LineLaws.{rule-leaf, rule-join, rule-step, wrote-as}
 use Rattle.rule_line.proofs.write_rule.Statement.{statement}

@@ -1,3 +1,4 @@
+-- `rule_part::faulty_line` meets its contract: by whether the sender's text is refused, and then the receiver's.
 use mathlib.Core.Path.{sym, _∙_}
 use Rattle.paper.specs.Limits.{limits}
 use Rattle.rule_part.proofs.PartLaws.{part-sender, part-receiver, part-none}

@@ -1,3 +1,4 @@
+-- `rule_part::refused_at` meets its contract: a refusal has its place, and a text that is read has 0.
 use native.Mathlib.Omega.{arith}
 use Rattle.rule_part.proofs.PartLaws.{place-refused, place-none}
 use borrow.Author.Needs.{needs}

@@ -1,3 +1,4 @@
+-- `rule_read::copy` meets its contract. The loop's invariant: the first i numbers are copied, and the others are as they were.
 use Prim.Native.Nat.{ℕ, _≤_, _-_}
 use mathlib.Core.Path.{_≡_, refl, ap, sym, _∙_}
 use denote.Ref.{now}

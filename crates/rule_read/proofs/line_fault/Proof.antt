@@ -1,3 +1,4 @@
+-- `rule_read::line_fault` meets its contract: by what the line says.
 use Rattle.rule_read.specs.Text.{lineFault}
 use borrow.Author.Needs.{needs}
 use Rattle.rule_read.proofs.line_fault.Statement.{statement}

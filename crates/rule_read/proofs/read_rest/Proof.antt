@@ -1,3 +1,4 @@
+-- `rule_read::read_rest` meets its contract. The loop's invariant: the first k lines have no fault, and their table stands at the fronts.
 use Prim.Native.Nat.{_-_}
 use mathlib.Core.Path.{_≡_, refl, _∙_}
 use native.Mathlib.Omega.{arith}

@@ -1,3 +1,4 @@
+-- `rule_read::read_text` meets its contract: without room or with a refusal nothing is written, else the table is copied.
 use mathlib.Core.Logic.{inl, inr}
 use denote.Ref.{now}
 use native.Mathlib.Omega.{arith}

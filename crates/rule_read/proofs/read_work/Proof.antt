@@ -1,3 +1,4 @@
+-- `rule_read::read_work` meets its contract: a first line that is no head within the limits is refused, else the lines behind it decide.
 use native.Mathlib.Omega.{arith}
 use denote.Ref.{now}
 use Rattle.paper.specs.Limits.{limits}

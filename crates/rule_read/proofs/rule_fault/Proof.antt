@@ -1,3 +1,4 @@
+-- `rule_read::rule_fault` meets its contract: the lowest number by the first of the four tests that tells.
 use mathlib.Core.Path.{sym}
 use denote.Ref.{now}
 use Rattle.paper.specs.Limits.{limits}

@@ -1,3 +1,4 @@
+-- `rule_read::state_fault` meets its contract: the lowest number by the first of the three tests that tells.
 use mathlib.Core.Path.{sym}
 use mathlib.Core.Logic.{inl, inr, ⊎-elim}
 use native.Mathlib.Omega.{arith}

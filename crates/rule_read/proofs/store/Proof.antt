@@ -1,3 +1,4 @@
+-- `rule_read::store` meets its contract: by what the line says; only a state and a rule add anything.
 use native.Mathlib.Omega.{arith}
 use Rattle.paper.specs.Limits.{limits}
 use Rattle.rule_read.proofs.Said.{wide-limits}

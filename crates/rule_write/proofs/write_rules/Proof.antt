@@ -1,3 +1,4 @@
+-- `rule_write::write_rules` meets its contract. The loop's invariant: the lines of the rules before rule i are laid from `at` to e.
 use mathlib.Core.Path.{_≡_}
 use Prim.Native.Nat.{_≤_, _-_, _/_}
 use Rattle.paper.specs.Limits.{limits}

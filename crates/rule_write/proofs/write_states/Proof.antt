@@ -1,3 +1,4 @@
+-- `rule_write::write_states` meets its contract. The loop's invariant: the lines of the states before state i are laid from `at` to e.
 use mathlib.Core.Path.{_≡_}
 use Prim.Native.Nat.{_≤_, _-_}
 use native.Mathlib.Omega.{arith}

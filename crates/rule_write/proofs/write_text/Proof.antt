@@ -1,3 +1,4 @@
+-- `rule_write::write_text` meets its contract: a refused table and a short slice write nothing, and else the whole text has room.
 use mathlib.Core.Path.{sym, ap, _∙_}
 use native.Mathlib.Omega.{arith}
 use denote.Ref.{now}

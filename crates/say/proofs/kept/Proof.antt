@@ -1,3 +1,4 @@
+-- `say::kept` is safe and ends. The loop's invariant: i is at most the length of the slice.
 use Prim.Native.Nat.{_≤_, _-_}
 use lib.ListN.{length}
 use borrow.Author.Needs.{needs}

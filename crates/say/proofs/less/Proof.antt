@@ -1,3 +1,4 @@
+-- `say::less` meets its contract: by whether this is the short case, and whether the length is 0.
 use native.Mathlib.Omega.{arith}
 use mathlib.Core.Path.{refl}
 use Rattle.say.proofs.PartLaws.{less-same, less-one}

@@ -1,3 +1,4 @@
+-- `say::numbers` meets its contract. The loop's invariant: there are no more numbers than the slice holds, and it keeps its length.
 use mathlib.Core.Path.{_≡_}
 use Prim.Native.Nat.{_-_, _≤_}
 use lib.ListN.{length}

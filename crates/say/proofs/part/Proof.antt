@@ -1,3 +1,4 @@
+-- `say::part` meets its contract: the part is empty, whole or cut off, by where the slice ends.
 use denote.Ref.{now}
 use native.Mathlib.Omega.{arith}
 use Rattle.say.proofs.PartLaws.{part-none, part-some, part-rest}

@@ -1,3 +1,4 @@
+-- `say::push` meets its contract: a slice that is written at one place keeps its length.
 use denote.Ref.{now}
 use native.Mathlib.Omega.{arith}
 use lib.ListN.{length-set}

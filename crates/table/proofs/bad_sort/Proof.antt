@@ -1,3 +1,4 @@
+-- `table::bad_sort` meets its contract: each answer by the first of the three tests that tells.
 use mathlib.Core.Logic.{inl, inr, ⊎-elim}
 use native.Mathlib.Omega.{arith}
 use Rattle.paper.proofs.TellsLaws.{tells-yes, tells-lt}

@@ -1,3 +1,4 @@
+-- `table::first_bad_mark` meets its contract. The loop's invariant: no mark before i is out of range.
 use Prim.Native.Nat.{_≤_, _-_}
 use denote.Ref.{now}
 use lib.ListN.{length}

@@ -1,3 +1,4 @@
+-- `tree::check` meets its contract. The loop's invariant: no node before i is bad.
 use Prim.Native.Nat.{_≤_, _-_}
 use mathlib.Core.Path.{_∙_, sym, ap}
 use mathlib.Core.Logic.{inl, inr}

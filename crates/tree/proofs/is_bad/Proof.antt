@@ -1,3 +1,4 @@
+-- `tree::is_bad` meets its contract: a leaf by its symbol, a join by its left child and then by its right one.
 use Prim.Native.Nat.{_+_, _*_}
 use denote.Ref.{now}
 use native.Mathlib.Omega.{arith}

@@ -1,3 +1,4 @@
+-- `base_cases::slices::judge` is safe and ends: what is loaded and counted stays inside the two slices.
 use native.Mathlib.Omega.{arith}
 use lib.ListN.{length-take}
 use borrow.Author.Needs.{needs}

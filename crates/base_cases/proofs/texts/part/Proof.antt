@@ -1,3 +1,4 @@
+-- `base_cases::texts::part` is safe and ends: each text is cut at what was loaded, which its slice holds.
 use native.Mathlib.Omega.{arith}
 use lib.ListN.{length-take}
 use borrow.Author.Needs.{needs}

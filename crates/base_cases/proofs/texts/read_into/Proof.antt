@@ -1,3 +1,4 @@
+-- `base_cases::texts::read_into` is safe and ends: the fronts that are written back stand in the slices by the two tests before.
 use native.Mathlib.Omega.{arith}
 use lib.ListN.{length-take}
 use borrow.Author.Needs.{needs}

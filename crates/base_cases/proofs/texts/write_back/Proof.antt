@@ -1,3 +1,4 @@
+-- `base_cases::texts::write_back` is safe and ends: the text that is compared stands in the slice by the test before.
 use native.Mathlib.Omega.{arith}
 use lib.ListN.{length-take}
 use borrow.Author.Needs.{needs}
