@@ -1,6 +1,8 @@
 // Acceptance of a tree by a table. The lent nodes are read in place, node by node; a node's set of states is kept in the library's own
 // memory, one bit a state.
 // specs/Accept has what the answer tells, specs/Work the memory and what each function does to it.
+#![tactic(auto)]
+
 ghost use Rattle.std.specs.Prelude.{◌+◌, ◌*◌, ◌≤◌, ◌<◌, length};
 ghost use Rattle.paper.specs.Limits.{limits};
 ghost use Rattle.paper.specs.Told.{Tells};

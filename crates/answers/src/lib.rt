@@ -1,6 +1,8 @@
 // The lines in which the programs answer, put into a lent slice: a refusal, "included", a witness and its nodes. As with crate put, every
 // function answers the place behind what it wrote; where that does not fit, nothing is changed and the place itself is answered.
 // specs/Lines has the lines.
+#![tactic(auto)]
+
 ghost use Rattle.put.specs.Put.{Wrote};
 ghost use Rattle.answers.specs.Lines.{refused_line_of, included_line, witness_line, node_line};
 

@@ -1,5 +1,7 @@
 // A set of numbers as bits, sixteen to a word: number i is in the set where bit i % 16 of word i / 16 is 1.
 // Each function takes every slice and every number: behind the slice's end nothing is in the set, and nothing is changed.
+#![tactic(auto)]
+
 ghost use Rattle.std.specs.Prelude.{◌≡◌, eqb};
 ghost use Rattle.bits.specs.Bits.{bit_at, Made};
 

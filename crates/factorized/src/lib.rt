@@ -1,6 +1,8 @@
 // The check of a receiver's table: after the table's own refusals 7, 8 and 9, and the numbers of its states: which one it reaches that may
 // stand left, which one that may stand right, whether it reaches a final one.
 // specs/Factored has what `factor` tells and leaves, specs/Work what each private function does.
+#![tactic(auto)]
+
 ghost use Rattle.std.specs.Prelude.{◌≡◌, ◌+◌, ◌*◌, ◌/◌, ◌≤◌, ◌<◌, length};
 ghost use Rattle.paper.specs.Limits.{limits};
 ghost use Rattle.paper.specs.Told.{Tells, check_told};

@@ -1,6 +1,7 @@
 -- What the private functions that build an index do. Nothing of it stands in the contract of a public function.
 use Rattle.std.specs.Prelude.{ℕ, zero, suc, ◌+◌, ◌*◌, ◌/◌, ◌≤◌, ◌<◌, ◌≡◌, List, length, set}
-use Rattle.std.proofs.Math.Logic.{ite, Dec·and}
+use Rattle.std.proofs.Math.Logic.{ite}
+use Rattle.std.proofs.Math.Logic.Dec
 use Rattle.std.proofs.Math.Decide.{ℕ_discrete, dec_le, map_dec}
 use Rattle.paper.specs.Limits.{at, join_kind}
 use Rattle.joins.specs.Index.{JoinAt, Listed, most_number}
@@ -11,7 +12,7 @@ join_at? w xs i l =
     {A = (i * w + w ≤ length xs) × ((at xs (i * w) ≡ join_kind) × (at xs (i * w + 1) ≡ l))}
     (λ x. record { inside = x.0; kind = x.1.0; left = x.1.1 })
     (λ j. (j.inside, (j.kind, j.left)))
-    (Dec·and (dec_le _ _) (Dec·and (ℕ_discrete _ _) (ℕ_discrete _ _)))
+    (Dec.and (dec_le _ _) (Dec.and (ℕ_discrete _ _) (ℕ_discrete _ _)))
 
 -- how many of the first n rules are join rules with the left state l
 unfoldable pub own : ℕ → List ℕ → ℕ → ℕ → ℕ

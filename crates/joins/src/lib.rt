@@ -1,5 +1,7 @@
 // The join rules of a table found by their left state: an index beside the rules, built, and a join rule's target looked up in it.
 // specs/Index has what an index is, specs/Target what looking up tells, specs/Work what the private functions do.
+#![tactic(auto)]
+
 ghost use Rattle.std.specs.Prelude.{◌≡◌, ◌/◌, min, length};
 ghost use Rattle.paper.specs.Limits.{limits};
 ghost use Rattle.paper.specs.Told.{Tells};

@@ -1,6 +1,8 @@
 // Lines and numbers of texts, read: one decimal number; a text cut into lines; a line of a letter and two or three numbers.
 // Every public function takes every text and every place: what it does not find it answers by the first byte that is wrong, or by an
 // empty part. specs/ has how numbers and lines are written, and proofs/ that reading and writing are inverse to each other.
+#![tactic(auto)]
+
 ghost use Rattle.std.specs.Prelude.{◌≡◌, drop};
 ghost use Rattle.lines.specs.Number.{digit, number};
 ghost use Rattle.lines.specs.Lines.{line_end_of, line_at, Starts};

@@ -1,5 +1,7 @@
 // The search for two like places: after one state two places can come next that bear one symbol. The search takes slices of any length:
 // what is not there is no place.
+#![tactic(auto)]
+
 ghost use Rattle.std.specs.Prelude.{◌*◌, ◌+◌, ◌≢◌};
 ghost use Rattle.paper.specs.Limits.{limits, at};
 ghost use Rattle.paper.specs.Told.{Tells};

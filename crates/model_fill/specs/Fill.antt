@@ -1,6 +1,7 @@
 -- What a model text tells once its models are looked into, and what is then kept of its states.
 use Rattle.std.specs.Prelude.{ℕ, ◌*◌, ◌≡◌, List, length}
-use Rattle.std.proofs.Math.Logic.{ite, Dec·and}
+use Rattle.std.proofs.Math.Logic.{ite}
+use Rattle.std.proofs.Math.Logic.Dec
 use Rattle.std.proofs.Math.Decide.{ℕ_discrete, map_dec}
 use Rattle.paper.specs.Limits.{Limits}
 use Rattle.paper.specs.Told.{Told, refused, sizes, refusal, after}
@@ -20,7 +21,7 @@ long? stride B O E N =
     {A = (length B ≡ stride) × ((length O ≡ stride) × ((length E ≡ stride) × (length N ≡ stride * stride)))}
     (λ x. record { bears = x.0; owners = x.1.0; ends = x.1.1.0; next = x.1.1.1 })
     (λ r. (r.bears, (r.owners, (r.ends, r.next))))
-    (Dec·and (ℕ_discrete _ _) (Dec·and (ℕ_discrete _ _) (Dec·and (ℕ_discrete _ _) (ℕ_discrete _ _))))
+    (Dec.and (ℕ_discrete _ _) (Dec.and (ℕ_discrete _ _) (Dec.and (ℕ_discrete _ _) (ℕ_discrete _ _))))
 
 -- what a text tells that is lent slices of one stride: 1 where they are of other lengths; 13 and 15; 14; or else its sizes
 unfoldable pub fill_told : Limits → List ℕ → List ℕ → List ℕ → List ℕ → List ℕ → Told

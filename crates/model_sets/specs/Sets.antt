@@ -1,7 +1,8 @@
 -- The sets of one model as flags in lent slices: what each place bears, at which positions a word may end, and which place can come next
 -- at which position, in rows of one stride.
 use Rattle.std.specs.Prelude.{ℕ, ◌+◌, ◌*◌, ◌≤◌, ◌<◌, ◌≡◌, Bool, true, false, cond, ◌&&◌, List, ◌++◌, length, drop, ltb, leb}
-use Rattle.std.proofs.Math.Logic.{ite, Dec·and}
+use Rattle.std.proofs.Math.Logic.{ite}
+use Rattle.std.proofs.Math.Logic.Dec
 use Rattle.std.proofs.Math.Option.{Option, none, some}
 use Rattle.std.proofs.Math.Decide.{dec_le, dec_lt}
 use Rattle.paper.specs.Limits.{Limits, at}
@@ -21,7 +22,7 @@ abbrev pub Room : ℕ → ℕ → ℕ → ℕ → ℕ → Type 0
 Room stride p b e n = (p ≤ stride) × ((p ≤ b) × ((p < e) × (p * stride + p ≤ n)))
 
 unfoldable pub room? : (stride p b e n : ℕ) → Dec (Room stride p b e n)
-room? stride p b e n = Dec·and (dec_le _ _) (Dec·and (dec_le _ _) (Dec·and (dec_lt _ _) (dec_le _ _)))
+room? stride p b e n = Dec.and (dec_le _ _) (Dec.and (dec_le _ _) (Dec.and (dec_lt _ _) (dec_le _ _)))
 
 -- the number of places of a model for which there is room
 unfoldable pub answer_of : ℕ → Option Model → ℕ → ℕ → ℕ → Sets

@@ -1,6 +1,8 @@
 // The receiver's moves, as the search makes them: the base state of a leaf, the base state of a join, and whether a pair fails.
 // specs/Looked has what they read on any slices, specs/Receiving the receiver as the search has it, and proofs/MoveLaws what they
 // are there.
+#![tactic(auto)]
+
 ghost use Rattle.paper.specs.Limits.{limits};
 ghost use Rattle.paper.specs.Told.{Tells};
 ghost use Rattle.moves.specs.Looked.{FirstLeaf, Stepped, FailsAt};

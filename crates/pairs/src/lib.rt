@@ -1,6 +1,8 @@
 // The pairs of a sender's state and a receiver's state, which are two types: a sender's state is never looked up in the receiver's table;
 // and the work slice in which a search keeps them.
 // specs/Memory has the work memory of the search, specs/State what is known of the pairs found, specs/Work what the functions do to it.
+#![tactic(auto)]
+
 ghost use Rattle.std.specs.Prelude.{◌≡◌, ◌≤◌, ◌<◌, length};
 ghost use Rattle.paper.specs.Limits.{limits};
 ghost use Rattle.paper.specs.Told.{Tells};
@@ -26,13 +28,13 @@ pub const FIRSTS: usize = 2;
 pub const SECONDS: usize = 3;
 
 // A state of the sender, and a state of the receiver.
-#[derive(Drop)]
+#[derive(Clone, Copy)]
 pub struct Sender(pub u16);
 
-#[derive(Drop)]
+#[derive(Clone, Copy)]
 pub struct Receiver(pub u16);
 
-#[derive(Drop)]
+#[derive(Clone, Copy)]
 pub struct Pair {
     pub p: Sender,
     pub q: Receiver,
@@ -40,7 +42,7 @@ pub struct Pair {
 
 // The sizes of a search: the receiver's states, the pairs, where in the work memory the index of the receiver's join rules begins, and
 // where what is kept of the pairs.
-#[derive(Drop)]
+#[derive(Clone, Copy)]
 pub struct Sizes {
     pub receivers: u16,
     pub pairs: usize,
@@ -49,7 +51,7 @@ pub struct Sizes {
 }
 
 // The numbers of a rule.
-#[derive(Drop)]
+#[derive(Clone, Copy)]
 pub struct RuleRow {
     pub kind: u16,
     pub left: u16,

@@ -1,5 +1,6 @@
 // The paper's numbers, named once: the limits of tables, trees and texts, the refusals, and what a refusal tells.
 // No function stands here; specs/ has what an answer can tell and what "the first fault" means.
+#![tactic(auto)]
 
 // At most so many symbols, states and rules has a table.
 pub const SYMBOLS: u16 = 40;

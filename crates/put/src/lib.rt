@@ -1,5 +1,7 @@
 // Bytes, numbers, fields and whole lines put into a lent slice from a place on. Every public function takes every slice and every
 // place, and answers the place behind what it wrote; where that does not fit, nothing is changed and the place itself is answered.
+#![tactic(auto)]
+
 ghost use Rattle.std.specs.Prelude.{◌≡◌, ℕ, ◌+◌, [], ◌∷◌, length, leb};
 ghost use Rattle.lines.specs.Number.{decimal};
 ghost use Rattle.lines.specs.Fields.{entry, last, letters};

@@ -1,5 +1,7 @@
 // Slices of 16-bit numbers written: the numbers of one rule put at a place, and a stretch filled with one number. Both functions take
 // every slice and every place.
+#![tactic(auto)]
+
 ghost use Rattle.std.specs.Prelude.{◌+◌, [], ◌∷◌};
 ghost use Rattle.put.specs.Put.{Wrote};
 ghost use Rattle.rows.specs.Fill.{Filled};

@@ -1,5 +1,7 @@
 // One line of a rule text: taken apart, and written. The two are inverse to each other on every line that can be said, with numbers that
 // must be 0 being so and one of the three kinds (Sayable, line-written and line-known of proofs/LineLaws).
+#![tactic(auto)]
+
 ghost use Rattle.std.specs.Prelude.{◌≡◌};
 ghost use Rattle.put.specs.Put.{Wrote};
 ghost use Rattle.rule_line.specs.Line.{count, says, line, rule_text, line_text};

@@ -1,6 +1,7 @@
 -- What reading a rule text tells: refusals 2 to 6 at the first faulty line, in it the lowest number; or the table that the text says.
 use Rattle.std.specs.Prelude.{ℕ, zero, suc, ◌+◌, ◌/◌, ◌≤◌, ◌<◌, ◌≡◌, ◌≢◌, ◌⊎◌, List, [], ◌∷◌, ◌++◌, map, length, get_or, take}
-use Rattle.std.proofs.Math.Logic.{ite, Dec·not}
+use Rattle.std.proofs.Math.Logic.{ite}
+use Rattle.std.proofs.Math.Logic.Dec
 use Rattle.std.proofs.Math.Decide.{ℕ_discrete, dec_le, dec_lt}
 use Rattle.paper.specs.Limits.{Limits}
 use Rattle.paper.specs.Told.{Told, refused, holds, refusal, filled}
@@ -62,7 +63,7 @@ abbrev pub OutOfOrder : ℕ → ℕ → ℕ → Type 0
 OutOfOrder n m q = (n ≤ m) ⊎ (q ≢ m)
 
 unfoldable pub out_of_order? : (n m q : ℕ) → Dec (OutOfOrder n m q)
-out_of_order? n m q = dec_or (dec_le _ _) (Dec·not (ℕ_discrete _ _))
+out_of_order? n m q = dec_or (dec_le _ _) (Dec.not (ℕ_discrete _ _))
 
 -- a rule line is early, m of n S lines being before it
 abbrev pub TooEarly : ℕ → ℕ → Type 0

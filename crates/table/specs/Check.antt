@@ -1,7 +1,8 @@
 -- A table given as slices, a symbol count, the marks of its states and its rules in rows: refusals 4, 2, 5 and 6, each as "given exactly
 -- if", and what the check of a table tells.
 use Rattle.std.specs.Prelude.{ℕ, ◌+◌, ◌*◌, ◌/◌, ◌%◌, ◌≤◌, ◌<◌, ◌≡◌, ◌≢◌, ◌⊎◌, List, length}
-use Rattle.std.proofs.Math.Logic.{ite, Dec·and, Dec·not}
+use Rattle.std.proofs.Math.Logic.{ite}
+use Rattle.std.proofs.Math.Logic.Dec
 use Rattle.std.proofs.Math.Decide.{ℕ_discrete, dec_le, dec_lt}
 use Rattle.paper.specs.Limits.{Limits, at, leaf_kind, join_kind, eps_kind}
 use Rattle.paper.specs.Told.{Told, refused, passes}
@@ -43,7 +44,7 @@ unfoldable pub too_large? : (L : Limits) (symbols states rules : ℕ) → Dec (T
 too_large? L symbols states rules = dec_or (ℕ_discrete _ _) (dec_or (dec_lt _ _) (dec_or (dec_lt _ _) (dec_lt _ _)))
 
 unfoldable pub ragged? : (L : Limits) (xs : List ℕ) → Dec (Ragged L xs)
-ragged? L xs = Dec·not (ℕ_discrete _ _)
+ragged? L xs = Dec.not (ℕ_discrete _ _)
 
 unfoldable pub bad_sort? : (s f : ℕ) → Dec (BadSort s f)
 bad_sort? s f = dec_or (ℕ_discrete _ _) (dec_or (dec_lt _ _) (dec_lt _ _))
@@ -52,13 +53,13 @@ unfoldable pub bad_mark? : (m : ℕ) → Dec (BadMark m)
 bad_mark? m = bad_sort? (sort_of m) (final_of m)
 
 unfoldable pub misshapen? : (k b : ℕ) → Dec (Misshapen k b)
-misshapen? k b = dec_or (dec_lt _ _) (Dec·and (Dec·not (ℕ_discrete _ _)) (Dec·not (ℕ_discrete _ _)))
+misshapen? k b = dec_or (dec_lt _ _) (Dec.and (Dec.not (ℕ_discrete _ _)) (Dec.not (ℕ_discrete _ _)))
 
 unfoldable pub out_of_range? : (symbols states k a b q : ℕ) → Dec (OutOfRange symbols states k a b q)
 out_of_range? symbols states k a b q =
     dec_or (dec_le _ _)
-    (dec_or (Dec·and (ℕ_discrete _ _) (dec_le _ _))
-    (dec_or (Dec·and (Dec·not (ℕ_discrete _ _)) (dec_le _ _)) (Dec·and (ℕ_discrete _ _) (dec_le _ _))))
+    (dec_or (Dec.and (ℕ_discrete _ _) (dec_le _ _))
+    (dec_or (Dec.and (Dec.not (ℕ_discrete _ _)) (dec_le _ _)) (Dec.and (ℕ_discrete _ _) (dec_le _ _))))
 
 unfoldable pub has_row? : (w : ℕ) (xs : List ℕ) (n k a b q : ℕ) → Dec (HasRow w xs n k a b q)
 has_row? w xs n k a b q = dec_below (λ j. Row w xs j k a b q) (λ j. row? w xs j k a b q) n

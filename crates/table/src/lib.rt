@@ -1,5 +1,7 @@
 // A rule table given as slices, and its check: refusals 4, 2, 5 and 6.
 // specs/Rules has rules, evaluation and acceptance, specs/Check what is wrong with a table, specs/Links the lists that its check keeps.
+#![tactic(auto)]
+
 ghost use Rattle.std.specs.Prelude.{◌≡◌, ◌+◌, ◌*◌, ◌/◌, ◌<◌, ◌≤◌, length};
 ghost use Rattle.paper.specs.Limits.{limits, at};
 ghost use Rattle.paper.specs.Told.{Tells, passes, check_told};

@@ -1,6 +1,7 @@
 -- Refusal 12: what is wrong with a node list, and what its check tells.
 use Rattle.std.specs.Prelude.{ℕ, ◌+◌, ◌*◌, ◌/◌, ◌%◌, ◌≤◌, ◌<◌, ◌≡◌, ◌≢◌, ◌⊎◌, List, length}
-use Rattle.std.proofs.Math.Logic.{ite, Dec·and, Dec·not}
+use Rattle.std.proofs.Math.Logic.{ite}
+use Rattle.std.proofs.Math.Logic.Dec
 use Rattle.std.proofs.Math.Decide.{ℕ_discrete, dec_le, dec_lt}
 use Rattle.paper.specs.Limits.{Limits, at}
 use Rattle.paper.specs.Told.{Told, refused, passes}
@@ -23,7 +24,7 @@ bad_length? L xs = dec_or (ℕ_discrete _ _) (dec_or (ℕ_discrete _ _) (dec_lt 
 
 unfoldable pub bad_node? : (symbols : ℕ) (xs : List ℕ) (i : ℕ) → Dec (BadNode symbols xs i)
 bad_node? symbols xs i =
-    dec_or (Dec·and (ℕ_discrete _ _) (dec_le _ _)) (Dec·and (Dec·not (ℕ_discrete _ _)) (dec_or (dec_le _ _) (dec_le _ _)))
+    dec_or (Dec.and (ℕ_discrete _ _) (dec_le _ _)) (Dec.and (Dec.not (ℕ_discrete _ _)) (dec_or (dec_le _ _) (dec_le _ _)))
 
 -- the number that is wrong with node i, or 0
 unfoldable pub node_fault : ℕ → List ℕ → ℕ → ℕ

@@ -1,5 +1,7 @@
 // A tree as a lent list of nodes, two numbers each, and its check: refusal 12.
 // specs/Tree has trees and the tree of a node list, specs/Nodes what is wrong with one.
+#![tactic(auto)]
+
 ghost use Rattle.std.specs.Prelude.{◌≡◌, ◌+◌, ◌*◌, ◌≤◌, length};
 ghost use Rattle.paper.specs.Limits.{limits};
 ghost use Rattle.paper.specs.Told.{Tells, check_told};
