@@ -74,6 +74,8 @@ class Names:
     def path(self, place, ups, fields):
         """`c`, so many .before, then fields, in today's names. A step that was respelled as a lemma of its name has its own name back."""
         start = place
+        # the name of a parameter is a name of the source
+        fields = [plain(f) if i and fields[i - 1] in ("args", "ranges", "new", "auto") else f for i, f in enumerate(fields)]
         new = self.way(place, ups, fields)
         for first in [BACK[fields[0]]] if fields and fields[0] in BACK else []:
             new = new or self.way(place, ups, [first, *fields[1:]])
@@ -107,7 +109,7 @@ class Names:
                 return ".".join(["c", arms[0], best[0], *rest[len(best[1]):]])
         if old and first == plain(old):
             return ".".join(["c", new, *rest])
-        if parent is None:
+        if parent is None and fields[0] in ("args", "ranges", "requires", "well_formed", "lifetimes"):
             return ".".join(["c", *fields])
         # `before` may be left out where a field is of an earlier step
         return None

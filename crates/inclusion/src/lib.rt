@@ -2,6 +2,8 @@
 // to the lent witness slice. Refusals: the sender's table, the receiver's table, 7, 8, 9, 10, 11.
 // specs/Inclusion has what the answer tells; search.rt finds the answer, by the steps of crate steps, witness.rt writes the tree;
 // specs/Search, Trace and Write have what their functions do to the work memory.
+#![tactic(auto)]
+
 ghost use Rattle.std.specs.Prelude.{◌≡◌, ◌≤◌, length};
 ghost use Rattle.paper.specs.Limits.{limits};
 ghost use Rattle.inclusion.specs.Inclusion.{lent, Answered, Comparable, told};

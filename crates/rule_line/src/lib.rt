@@ -19,7 +19,7 @@ const LETTER_P: u8 = 80;
 const LETTER_E: u8 = 69;
 
 // What a line says: the head, a state, a rule as four numbers; or the first byte at which none of the five shapes could go on.
-#[derive(Drop)]
+#[derive(Clone, Copy)]
 pub enum Line {
     Head(u16, u16),
     State(u16, u16, u16),

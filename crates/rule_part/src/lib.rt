@@ -1,6 +1,8 @@
 // The faulty line of two rule texts, handed back as a part of the sender's text or of the receiver's: the line at which the reader
 // refuses the text, the sender's if both are refused; empty if neither is, or if that line is missing.
 // specs/Part has which part it is.
+#![tactic(auto)]
+
 ghost use Rattle.std.specs.Prelude.{◌≡◌};
 ghost use Rattle.paper.specs.Limits.{limits};
 ghost use Rattle.paper.specs.Told.{place_of};

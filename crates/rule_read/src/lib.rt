@@ -1,6 +1,8 @@
 // Rule texts read into a table. The reader takes every text: it tells the table, which then stands at the fronts of the lent slices, or
 // the refusal with its line, which leaves the slices as they were.
 // specs/Text has what a text tells, specs/Work what the reader keeps while it reads.
+#![tactic(auto)]
+
 ghost use Rattle.std.specs.Prelude.{◌≡◌, ◌++◌, ◌*◌, ◌≤◌, length, take, drop};
 ghost use Rattle.paper.specs.Limits.{limits};
 ghost use Rattle.rule_read.specs.Text.{state_line_fault, rule_line_fault, line_fault_of, Reads};
@@ -17,14 +19,14 @@ pub enum Reading {
 }
 
 // What the head of a text says.
-#[derive(Drop)]
+#[derive(Clone, Copy)]
 struct Sizes {
     pub symbols: u16,
     pub states: u16,
 }
 
 // How many marks and rules are read.
-#[derive(Drop)]
+#[derive(Clone, Copy)]
 struct Counts {
     pub marks: usize,
     pub rules: usize,

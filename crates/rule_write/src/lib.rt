@@ -1,5 +1,7 @@
 // A table written as a rule text. proofs/ has that reading and writing are inverse to each other: a text that is read and then
 // written comes back byte for byte (RoundTrip), a table that is written and then read comes back equal (WriteRead).
+#![tactic(auto)]
+
 ghost use Rattle.std.specs.Prelude.{◌≡◌, ◌/◌, ◌≤◌, length};
 ghost use Rattle.paper.specs.Limits.{limits};
 ghost use Rattle.lines.specs.Number.{most_number};

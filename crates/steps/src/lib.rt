@@ -1,6 +1,8 @@
 // The steps of the search of the inclusion test: the pairs that the sender's leaf rules give, those that its ε rules give of pairs in the
 // queue, and those that its join rules give of a pair and the pairs taken.
 // specs/Runs has what each step does to any work slice, specs/Steps what that is in the slice of a search (proofs/StepLaws).
+#![tactic(auto)]
+
 ghost use Rattle.std.specs.Prelude.{◌/◌, length};
 ghost use Rattle.paper.specs.Limits.{limits};
 ghost use Rattle.pairs.specs.Work.{RowIn};
