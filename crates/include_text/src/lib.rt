@@ -1,5 +1,7 @@
 // From bytes to bytes: the answer to two rule texts, the sender's and the receiver's. What the program `include` does between reading and
 // writing. specs/Answer has the text of the answer, specs/Work what the private functions write.
+#![tactic(auto)]
+
 ghost use Rattle.std.specs.Prelude.{◌≡◌, ◌*◌, ◌≤◌, length};
 ghost use Rattle.paper.specs.Limits.{limits};
 ghost use Rattle.put.specs.Put.{Fit, Wrote};

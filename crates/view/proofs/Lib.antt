@@ -1,5 +1,1 @@
-pub mod Apart
-pub mod Tokens
-pub mod Checking
-pub mod CheckingOf
 pub mod Unique

@@ -2,6 +2,8 @@
 // answer what the functions on plain slices answer. Those with plain parameters, whose names end in _of, make the struct and pass it on.
 // Each promises what the function that does the work promises (table::check, factorized::check, accept::accept, inclusion::include), of
 // what the struct's slices hold; specs/Shown has the struct and the table that it shows.
+#![tactic(auto)]
+
 ghost use Rattle.std.specs.Prelude.{◌≡◌};
 ghost use Rattle.paper.specs.Limits.{limits};
 ghost use Rattle.paper.specs.Told.{check_told};
