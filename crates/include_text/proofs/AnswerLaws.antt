@@ -6,7 +6,7 @@ use mathlib.Core.List.{List, ◌++◌}
 use native.Mathlib.Omega.{arith}
 use lib.ListN.{length, take, length-take}
 use Rattle.paper.specs.Limits.{limits}
-use Rattle.paper.specs.Told.{Told, written, holds, witness}
+use Rattle.paper.specs.Told.{Told, written, holds}
 use Rattle.paper.specs.declared.Refusal.{Refusal}
 use Rattle.table.specs.Room.{NoRoom}
 use Rattle.table.proofs.Range.{states_few, symbols_few}

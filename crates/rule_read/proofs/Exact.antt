@@ -1,7 +1,7 @@
 -- A text tells the first fault that `fault_at` finds, and 1 is told exactly without room; a told table has no fault. Assumes nothing.
 use Prim.Native.Nat.{ℕ, ◌+◌, ◌/◌, ◌≤◌}
 use mathlib.Core.Path.{◌≡◌, refl, sym, ◌∙◌}
-use mathlib.Core.Logic.{◌⊎◌, ⊎_elim, ◌↔◌, if_pos, if_neg, by_cases}
+use mathlib.Core.Logic.{⊎_elim, ◌↔◌, if_pos, if_neg, by_cases}
 use mathlib.Core.List.{List}
 use native.Mathlib.Omega.{arith}
 use lib.ListN.{length}

@@ -6,7 +6,7 @@ use native.Mathlib.Nat.{add-mul, mul-div_cancel, mul-le-mul_right}
 use native.Mathlib.Omega.{arith}
 use lib.ListN.{length, take, drop, length-append, take-append-drop, get_or-append}
 use lib.Seq.{length-take-le}
-use Rattle.paper.specs.Limits.{Limits, at}
+use Rattle.paper.specs.Limits.{Limits}
 use Rattle.table.specs.Rules.{Row}
 use Rattle.table.specs.Check.{OutOfRange, HasRow}
 use Rattle.rule_read.specs.Text.{the_rule_of, rule_line_fault}

@@ -7,7 +7,7 @@ use native.Mathlib.Nat.{add-mul, mul-le-mul_right}
 use native.Mathlib.Omega.{arith}
 use lib.ListN.{length, get_or, take, drop, set, length-append}
 use lib.Seq.{sets, sets-eq, take-suc, take-suc-set, take_at, length-take-le, set_at, append_snoc, drop-cons}
-use Rattle.paper.specs.Limits.{Limits, at}
+use Rattle.paper.specs.Limits.{Limits}
 use Rattle.rule_line.specs.declared.Line.{Line}
 use Rattle.rule_line.specs.declared.Line.TheVariants.{Head, State, Rule, Faulty}
 use Rattle.rule_read.specs.Text.{mark_of, the_rule_of}

@@ -1,6 +1,6 @@
 -- The round trips, from contract to contract: whatever the reader and the writer leave in the slices that they are lent, a text that is
 -- read and then written comes back byte for byte, and a table that is written and then read comes back equal. Assumes nothing.
-use Prim.Native.Nat.{ℕ, ◌+◌, ◌*◌, ◌/◌, ◌%◌, ◌≤◌}
+use Prim.Native.Nat.{ℕ, ◌*◌, ◌/◌, ◌%◌, ◌≤◌}
 use mathlib.Core.Path.{◌≡◌, refl, sym, ap, ◌∙◌}
 use mathlib.Core.Logic.{if_pos, if_neg, by_cases}
 use mathlib.Core.Bool.{false}

@@ -3,7 +3,6 @@ use mathlib.Core.Path.{◌∙◌, sym, ap}
 use Rattle.paper.specs.Told.{check_told}
 use Rattle.accept.specs.Accept.{bad_table, bad_tree, is_accepted, is_rejected}
 use Rattle.accept.proofs.JudgeLaws.{decidable_of}
-use borrow.Author.Rules.{rules}
 use Rattle.accept.proofs.accept.Goals as goal
 
 pub returns-in-Refused : goal.returns-in-Refused

@@ -4,7 +4,6 @@ use mathlib.Core.Path.{refl}
 use Rattle.paper.specs.Limits.{limits}
 use Rattle.accept.specs.Work.{words}
 use Rattle.accept.proofs.GoingLaws.{going_start, accepts_tells}
-use borrow.Author.Rules.{rules}
 use Rattle.accept.proofs.accepts.Goals as goal
 
 pub evaluate-requires : goal.evaluate-requires

@@ -5,7 +5,6 @@ use Rattle.paper.specs.Limits.{limits}
 use Rattle.accept.specs.Work.{span}
 use Rattle.paper.proofs.TellsLaws.{tells_no}
 use Rattle.accept.proofs.GatherLaws.{leaf_other, leaf_tells, join_other, join_left, join_tells}
-use borrow.Author.Rules.{rules}
 use Rattle.accept.proofs.fits.Goals as goal
 
 pub returns-then-rules-r-ne-LEAF_RULE : goal.returns-then-rules-r-ne-LEAF_RULE

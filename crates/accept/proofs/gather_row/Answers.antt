@@ -2,7 +2,6 @@
 use Rattle.paper.specs.Limits.{limits}
 use Rattle.accept.specs.Work.{span}
 use Rattle.accept.proofs.GatherLaws.{gathered_not, gathered_one}
-use borrow.Author.Rules.{rules}
 use Rattle.accept.proofs.gather_row.Goals as goal
 
 pub returns-then-not-fits : goal.returns-then-not-fits

@@ -1,6 +1,5 @@
 -- `accept::settle` meets its contract: the targets of rules, then all that ε steps reach from them.
 use Rattle.accept.proofs.GoingLaws.{going_ready, going_next}
-use borrow.Author.Rules.{rules}
 use Rattle.accept.proofs.settle.Goals as goal
 
 pub gather-requires : goal.gather-requires

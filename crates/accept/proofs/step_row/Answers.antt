@@ -2,7 +2,6 @@
 use Rattle.paper.specs.Limits.{limits}
 use Rattle.accept.specs.Work.{span}
 use Rattle.accept.proofs.EpsilonLaws.{passed_same, passed_one}
-use borrow.Author.Rules.{rules}
 use Rattle.accept.proofs.step_row.Goals as goal
 
 pub returns-then-rules-r-ne-EPSILON_RULE : goal.returns-then-rules-r-ne-EPSILON_RULE

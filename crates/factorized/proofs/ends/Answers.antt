@@ -1,6 +1,5 @@
 use native.Mathlib.Omega.{arith}
 use mathlib.Core.Path.{refl}
-use mathlib.Core.Logic.{⊎_elim}
 use borrow.Author.Count.{below_more}
 use Rattle.factorized.proofs.ends.Goals as goal
 use Rattle.factorized.proofs.ends.Goals.{then-reached-q-ne0+else-marks-q-eq1, else-reached-q-ne0}

@@ -1,7 +1,6 @@
 -- `factorized::factor` meets its contract: the table's refusal, that of `receive`, or the numbers are copied.
 use mathlib.Core.Path.{sym, ◌∙◌, ap, refl}
 use native.Mathlib.Omega.{arith}
-use borrow.Author.Rules.{rules}
 use Rattle.paper.specs.Limits.{limits}
 use Rattle.paper.specs.Told.{check_told}
 use Rattle.table.proofs.Exact.{passes_exactly}

@@ -1,7 +1,6 @@
 -- `factorized::is_left_again` meets its contract: an ε rule, a left side that the set has, one that is put into it.
 use borrow.Author.Tests.{eqb-true, eqb-false}
 use mathlib.Core.Path.{sym, ◌∙◌}
-use borrow.Author.Rules.{rules}
 use Rattle.paper.specs.Limits.{limits}
 use Rattle.factorized.proofs.SideLaws.{looked_eps, looked_again, looked_new}
 use Rattle.factorized.proofs.is_left_again.Goals as goal

@@ -1,6 +1,5 @@
 -- `factorized::receive` meets its contract: each answer by its law of `CheckLaws`.
 use native.Mathlib.Omega.{arith}
-use borrow.Author.Rules.{rules}
 use Rattle.paper.specs.Limits.{limits}
 use Rattle.factorized.proofs.RangeLaws.{in_range_wider}
 use Rattle.factorized.proofs.CheckLaws.{received_again, received_unsorted, received_split, received_single}

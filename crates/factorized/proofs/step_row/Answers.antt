@@ -1,6 +1,5 @@
 -- `factorized::step_row` meets its contract: the rule takes no ε step from the flags, its target is flagged already, or it is flagged.
 use native.Mathlib.Omega.{arith}
-use borrow.Author.Rules.{rules}
 use Rattle.paper.specs.Limits.{limits}
 use Rattle.factorized.proofs.EpsilonLaws.{rowed_same, rowed_one}
 use Rattle.factorized.proofs.step_row.Goals as goal

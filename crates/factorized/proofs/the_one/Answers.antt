@@ -1,4 +1,3 @@
-use mathlib.Core.Logic.{⊎_elim}
 use native.Mathlib.Omega.{arith}
 use Rattle.factorized.specs.Work.{none}
 use Rattle.factorized.proofs.OneLaws.{single_more, single_found, two_found, single_all, the_single, the_two}

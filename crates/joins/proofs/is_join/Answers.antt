@@ -5,7 +5,6 @@ use Rattle.paper.specs.Limits.{limits}
 use Rattle.paper.proofs.TellsLaws.{tells_no, tells_eq}
 use Rattle.table.proofs.Rows.{row_whole}
 use Rattle.joins.proofs.SearchLaws.{not_whole}
-use borrow.Author.Rules.{rules}
 use Rattle.joins.proofs.is_join.Goals as goal
 
 pub returns-then-rules-i : goal.returns-then-rules-i

@@ -2,7 +2,6 @@ use Prim.Native.Nat.{◌+◌}
 use native.Mathlib.Omega.{arith}
 use Rattle.paper.specs.Limits.{limits}
 use Rattle.joins.proofs.SearchLaws.{finds_short, finds_beyond, searched_none, searched_more, searched_end, searched_found}
-use borrow.Author.Rules.{rules}
 use Rattle.joins.proofs.target.Goals as goal
 
 pub returns-then-index-next : goal.returns-then-index-next

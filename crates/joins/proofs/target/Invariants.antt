@@ -2,7 +2,6 @@
 use Prim.Native.Nat.{◌-◌}
 use Rattle.paper.specs.Limits.{limits}
 use Rattle.joins.proofs.SearchLaws.{Searched}
-use borrow.Author.Rules.{rules}
 use Rattle.joins.proofs.target.Given as goal
 
 abbrev pub invariant-loop-k : goal.invariant-loop-k

@@ -1,7 +1,6 @@
 -- `pairs::rule_row` meets its contract.
 use mathlib.Core.Path.{refl}
 use native.Mathlib.Omega.{arith}
-use borrow.Author.Rules.{rules}
 use lib.ListN.{length}
 use Rattle.paper.specs.Limits.{limits}
 use Rattle.table.proofs.Rows.{row_below, row_whole}

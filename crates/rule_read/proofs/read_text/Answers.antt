@@ -4,7 +4,6 @@ use native.Mathlib.Omega.{arith}
 use Rattle.paper.specs.Limits.{limits}
 use Rattle.rule_read.proofs.Filling.{reads_short, reads_refused, reads_table}
 use Rattle.table.proofs.RoomLaws.{roomy}
-use borrow.Author.Rules.{rules}
 use Rattle.rule_read.proofs.read_text.Goals as goal
 
 pub returns-then-marks-lt-STATES : goal.returns-then-marks-lt-STATES

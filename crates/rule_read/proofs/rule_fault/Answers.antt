@@ -4,7 +4,6 @@ use Rattle.paper.specs.Limits.{limits}
 use Rattle.rule_read.proofs.Verdict.{rule_early}
 use Rattle.rule_read.proofs.Rows.{front_many, front_range, front_again, front_none}
 use Rattle.rule_read.proofs.Said.{wide_limits}
-use borrow.Author.Rules.{rules}
 use Rattle.rule_read.proofs.rule_fault.Goals as goal
 
 pub returns-then-done-states : goal.returns-then-done-states

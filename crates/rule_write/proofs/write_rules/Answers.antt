@@ -3,7 +3,6 @@ use Prim.Native.Nat.{◌/◌}
 use Rattle.paper.specs.Limits.{limits}
 use native.Mathlib.Omega.{arith}
 use lib.ListN.{length}
-use borrow.Author.Rules.{rules}
 use Rattle.rule_write.specs.Write.{rules_text_of}
 use Rattle.rule_write.proofs.WriteLaws.{laid_none, rules_more}
 use Rattle.rule_write.proofs.write_rules.Goals as goal

@@ -1,7 +1,6 @@
 -- `rule_write::write_rules` meets its contract. The loop's invariant: the lines of the rules before rule i are laid from `at` to e.
 use Prim.Native.Nat.{◌≤◌, ◌-◌}
 use Rattle.paper.specs.Limits.{limits}
-use borrow.Author.Rules.{rules}
 use Rattle.rule_write.specs.Write.{rules_text_of}
 use Rattle.rule_write.proofs.WriteLaws.{Laid}
 use Rattle.rule_write.proofs.write_rules.Given as goal

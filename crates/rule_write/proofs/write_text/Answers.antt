@@ -1,7 +1,6 @@
 -- `rule_write::write_text` meets its contract: a refused table and a short slice write nothing, and else the whole text has room.
 use mathlib.Core.Path.{sym, ap, ◌∙◌}
 use native.Mathlib.Omega.{arith}
-use borrow.Author.Rules.{rules}
 use Rattle.paper.specs.Limits.{limits}
 use Rattle.paper.specs.Told.{check_told}
 use Rattle.rule_write.proofs.WriteLaws.{passes_states, text_laid, writes_fault, writes_short, writes_all}

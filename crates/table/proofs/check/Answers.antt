@@ -1,7 +1,6 @@
 -- `table::check` meets its contract: each answer by the law of `Exact` for its refusal.
 use mathlib.Core.Path.{◌∙◌, sym, ap}
 use native.Mathlib.Omega.{arith}
-use borrow.Author.Rules.{rules}
 use Rattle.paper.specs.Limits.{limits}
 use Rattle.paper.specs.Told.{check_told}
 use Rattle.table.proofs.Exact.{refuse_size, refuse_length, refuse_mark, to_rules}

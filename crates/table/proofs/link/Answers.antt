@@ -2,7 +2,6 @@
 use mathlib.Core.Path.{sym}
 use native.Mathlib.Omega.{arith}
 use lib.ListN.{length-set}
-use borrow.Author.Rules.{rules}
 use Rattle.paper.specs.Limits.{limits}
 use Rattle.table.specs.Links.{lists}
 use Rattle.table.proofs.LinksLaws.{linked_more}

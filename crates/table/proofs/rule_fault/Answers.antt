@@ -1,6 +1,5 @@
 -- `table::rule_fault` meets its contract: each number by what the three tests tell.
 use mathlib.Core.Path.{sym}
-use borrow.Author.Rules.{rules}
 use Rattle.paper.specs.Limits.{limits}
 use Rattle.table.proofs.Exact.{rule_fault_lem, shape, range, again, none}
 use Rattle.table.proofs.rule_fault.Goals as goal
