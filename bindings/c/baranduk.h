@@ -1,6 +1,6 @@
 /* Baranduk for C: rule tables, rule texts, acceptance, content models and the inclusion test.
  *
- * Link target/staticlib/libembed.a (`rt staticlib embed`, x86-64 Linux). The functions need nothing but the C library's memcpy and
+ * Link target/staticlib/libembed.a (`bindings/library`, x86-64 Linux). The functions need nothing but the C library's memcpy and
  * memset, keep nothing between two calls, and may be called from several threads at once.
  *
  * Every function is proved to take every input, to end, and to answer as its contract in crates/embed says. What is trusted is the
@@ -17,7 +17,7 @@
  *     2, from, 0, to          epsilon rule
  * A tree is two numbers a node: symbol, BARANDUK_LEAF; or left node, right node, both earlier. The last node is the root.
  *
- * bindings/check-header holds this file to crates/embed/src/lib.rt and crates/paper/src/lib.rt. */
+ * bindings/check-header holds this file to crates/embed_c/src/lib.rt, crates/embed/src/lib.rt and crates/paper/src/lib.rt. */
 #ifndef BARANDUK_H
 #define BARANDUK_H
 

@@ -1,4 +1,4 @@
-//! Links the static library that `rt staticlib embed` writes; BARANDUK_LIB names another folder that has it.
+//! Links the static library that `bindings/library` writes; BARANDUK_LIB names another folder that has it.
 use std::env;
 use std::path::PathBuf;
 
@@ -11,7 +11,7 @@ fn main() {
     let library = folder.join("libembed.a");
     println!("cargo:rerun-if-changed={}", library.display());
     if !library.exists() {
-        panic!("{} is missing: run `rt staticlib embed`, or set BARANDUK_LIB", library.display());
+        panic!("{} is missing: run `bindings/library`, or set BARANDUK_LIB", library.display());
     }
     println!("cargo:rustc-link-search=native={}", folder.display());
     println!("cargo:rustc-link-lib=static=embed");

@@ -1,4 +1,4 @@
-//! The functions as the static library has them; bindings/check-header holds this file to crates/embed.
+//! The functions as the static library has them; bindings/check-header holds this file to crates/embed_c.
 
 /// What is answered: number 0 where nothing is refused, and then up to three values; or a refusal's number, side and place.
 #[repr(C)]

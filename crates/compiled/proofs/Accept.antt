@@ -6,7 +6,7 @@ use mathlib.Core.Logic.{◌↔◌}
 use mathlib.Core.Option.{some}
 use mathlib.Core.List.{List, [], ◌∷◌, ◌++◌, append_assoc, append-nil}
 use Rattle.paper.specs.Limits.{Limits}
-use Rattle.tree.specs.Tree.{Tree, leaf}
+use Rattle.tree.specs.Tree.{Tree, leaf, join}
 use Rattle.table.specs.Rules.{Rule, leaf_rule, join_rule, eps_rule, RulesOf, Has, at_leaf, at_join, at_eps, Accepts}
 use Rattle.model.specs.Model.{Model, bears}
 use Rattle.model.specs.Documents.{Doc, node, Docs, nil, cons, top, tops, binary, joined, Derives, derive, Each, each_nil, each_cons}
@@ -98,10 +98,10 @@ module _ {n : ℕ} {ls : List Line} (g : GoodLines n ls) where
     climb {i = i} h u (at_end c) s all_nil = at_eps u (the_eps_of h (ends_may m i c) (number_element a ((lines_below g).outer a m e)))
     climb h u (at_end c) s (all_cons k r) = absurd (nil_cons s)
     climb h u (next c b v) s all_nil = absurd (nil_cons (sym s))
-    climb {i = i} h u (next {y = y} {a = b} {w = w} c o v) s (all_cons {d = d} {ds = ds} k r) =
+    climb {t = t} {i = i} h u (next {y = y} {a = b} {w = w} c o v) s (all_cons {d = d} {ds = ds} k r) =
         let z : b ≡ top d = cc in
         let p = number_inside {n = n} (suc y) e (let l = comes_to m i y c in omega arith) in
-        climb p.1 (at_join u k (join_step i y c (o ∙ z) h p.1)) v (cc) r
+        climb {t = join t (binary d)} p.1 (at_join u k (join_step i y c (o ∙ z) h p.1)) v (cc) r
 
     complete_node : (ds : Docs) → Reads m 0 (tops ds) → All ds → Has (RuleOf n ls) (joined (leaf a) ds) a
     complete_node ds r k =

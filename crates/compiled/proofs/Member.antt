@@ -65,6 +65,7 @@ module _ {A : Type 0} where
 pub in_only : {x y : Rule} (b : Bool) → In x (only b y) → T b × (x ≡ y)
 unfolding only
 in_only true here = (tt, refl)
+in_only true (there h) = elim h [ ]
 in_only false h = elim h [ ]
 
 pub only_in : (b : Bool) (x : Rule) → T b → In x (only b x)

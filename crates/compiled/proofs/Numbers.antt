@@ -131,11 +131,17 @@ sits_within : {ls : List Line} {k a i : ℕ} {m : Model} → Sits ls k (inside a
 sits_within (this_line h) = h
 sits_within (later_line h) = sits_within h
 
+-- (the symbols and the positions may be two that are equal)
+sits_two : {ls : List Line} {k k' a a' i i' : ℕ} {m m' : Model} → Distinct ls → a ≡ a' → i ≡ i' → Sits ls k (inside a m i)
+    → Sits ls k' (inside a' m' i') → k ≡ k'
+sits_two d s t (this_line h) (this_line h') = t
+sits_two (and_line {ls = ls} e d) s t (this_line h) (later_line h') = absurd (none_some (sym e ∙ ap (model_of ls) s ∙ sits_model d h'))
+sits_two (and_line {ls = ls} e d) s t (later_line h) (this_line h') =
+    absurd (none_some (sym e ∙ ap (model_of ls) (sym s) ∙ sits_model d h))
+sits_two (and_line e d) s t (later_line {ln = ln} h) (later_line h') = ap (λ k. suc (places ln.model) + k) (sits_two d s t h h')
+
 sits_one : {ls : List Line} {k k' a i : ℕ} {m m' : Model} → Distinct ls → Sits ls k (inside a m i) → Sits ls k' (inside a m' i) → k ≡ k'
-sits_one d (this_line h) (this_line h') = refl
-sits_one (and_line e d) (this_line h) (later_line h') = absurd (none_some (sym e ∙ sits_model d h'))
-sits_one (and_line e d) (later_line h) (this_line h') = absurd (none_some (sym e ∙ sits_model d h))
-sits_one (and_line e d) (later_line {ln = ln} h) (later_line h') = ap (λ k. suc (places ln.model) + k) (sits_one d h h')
+sits_one d h h' = sits_two d refl refl h h'
 
 model_sits : (ls : List Line) (a i : ℕ) (m : Model) → model_of ls a ≡ some m → i < suc (places m) → (k : ℕ) × Sits ls k (inside a m i)
 unfolding model_of

@@ -1,5 +1,6 @@
 // The library for C and Rust: each function here calls one proved function and hands its answer back as six numbers of the paper's
-// numbering. They take every input; a lent slice is a pointer and a count, which the caller vouches for.
+// numbering. They take every input. crates/embed_c exports them to C, where a lent slice is a pointer and a count, which the caller vouches
+// for.
 // specs/Numbers has which numbers stand for what is told, specs/Says what each function promises.
 ghost use Rattle.std.specs.Prelude.{◌≡◌};
 ghost use Rattle.paper.specs.Told.{check_told};
@@ -120,8 +121,7 @@ fn of_include(x: inclusion::Answer) -> Answer
 }
 
 // Reads a rule text into the lent marks and rules. Values: symbols, states, rules.
-#[unsafe(no_mangle)]
-pub extern "C" fn baranduk_read(text: &[u8], marks: &mut [u16], rules: &mut [u16]) -> Answer
+pub fn baranduk_read(text: &[u8], marks: &mut [u16], rules: &mut [u16]) -> Answer
     ensures { ReadSays text.now marks.old rules.old result
         marks.new rules.new }
 {
@@ -129,13 +129,7 @@ pub extern "C" fn baranduk_read(text: &[u8], marks: &mut [u16], rules: &mut [u16
 }
 
 // Writes a table as a rule text. Values: bytes.
-#[unsafe(no_mangle)]
-pub extern "C" fn baranduk_write(
-    symbols: u16,
-    marks: &[u16],
-    rules: &[u16],
-    text: &mut [u8],
-) -> Answer
+pub fn baranduk_write(symbols: u16, marks: &[u16], rules: &[u16], text: &mut [u8]) -> Answer
     ensures { WriteSays symbols marks.now rules.now text.old result
         text.new }
 {
@@ -143,8 +137,7 @@ pub extern "C" fn baranduk_write(
 }
 
 // Turns a model text into a table in the lent marks and rules. Values: symbols, states, rules.
-#[unsafe(no_mangle)]
-pub extern "C" fn baranduk_compile(text: &[u8], marks: &mut [u16], rules: &mut [u16]) -> Answer
+pub fn baranduk_compile(text: &[u8], marks: &mut [u16], rules: &mut [u16]) -> Answer
     ensures { CompileSays text.now marks.old rules.old result
         marks.new rules.new }
 {
@@ -152,37 +145,28 @@ pub extern "C" fn baranduk_compile(text: &[u8], marks: &mut [u16], rules: &mut [
 }
 
 // Checks a table. No values.
-#[unsafe(no_mangle)]
-pub extern "C" fn baranduk_check(symbols: u16, marks: &[u16], rules: &[u16]) -> Answer
+pub fn baranduk_check(symbols: u16, marks: &[u16], rules: &[u16]) -> Answer
     ensures { CheckSays symbols marks.now rules.now result }
 {
     of_checked(table::check(symbols, marks, rules))
 }
 
 // Checks a receiver's table. No values.
-#[unsafe(no_mangle)]
-pub extern "C" fn baranduk_check_receiver(symbols: u16, marks: &[u16], rules: &[u16]) -> Answer
+pub fn baranduk_check_receiver(symbols: u16, marks: &[u16], rules: &[u16]) -> Answer
     ensures { ReceiverSays symbols marks.now rules.now result }
 {
     of_checked(factorized::check(symbols, marks, rules))
 }
 
 // Judges a tree by a table. Values: 1 for accepted, 0 for rejected.
-#[unsafe(no_mangle)]
-pub extern "C" fn baranduk_accept(
-    symbols: u16,
-    marks: &[u16],
-    rules: &[u16],
-    nodes: &[u16],
-) -> Answer
+pub fn baranduk_accept(symbols: u16, marks: &[u16], rules: &[u16], nodes: &[u16]) -> Answer
     ensures { AcceptSays symbols marks.now rules.now nodes.now result }
 {
     of_accept(accept::accept(symbols, marks, rules, nodes))
 }
 
 // Is every tree that the sender's table accepts accepted by the receiver's? Values: 0 for included, else the nodes of the witness.
-#[unsafe(no_mangle)]
-pub extern "C" fn baranduk_include(
+pub fn baranduk_include(
     sender_symbols: u16,
     sender_marks: &[u16],
     sender_rules: &[u16],

@@ -70,9 +70,13 @@ from_alt : {g : ℕ → ℕ} {l r : Model} → From g l → From g r → From g 
 from_alt bl br w (left a) = left_image (bl _ a)
 from_alt bl br w (right a) = right_image (br _ a)
 
+-- (for any model n whose words are all renamed words of m)
+star_image : {g : ℕ → ℕ} {m n : Model} → ((w : List ℕ) → Word n w → Image g m w) → (w : List ℕ) → Word (star n) w → Image g (star m) w
+star_image b w stop = image stop
+star_image b w (more a c) = more_image (b _ a) (star_image b _ c)
+
 from_star : {g : ℕ → ℕ} {m : Model} → From g m → From g (star m)
-from_star b w stop = image stop
-from_star b w (more a c) = more_image (b _ a) (from_star b _ c)
+from_star b = star_image b
 
 from_opt : {g : ℕ → ℕ} {m : Model} → From g m → From g (maybe m)
 from_opt b w skip = image skip

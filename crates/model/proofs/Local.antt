@@ -135,9 +135,11 @@ plus_word back f (cut q b) = some (back _ (walk f q)) b
 symbol_back : {a : ℕ} → Back (symbol a)
 symbol_back w (none a) = a
 symbol_back w (walk f_here (done e)) = one
+symbol_back w (walk f_here (step f q)) = elim f [ ]
 
 empty_back : Back empty
 empty_back w (none a) = a
+empty_back w (walk f q) = elim f [ ]
 
 seq_back : {l r : Model} → Apart l r → Back l → Back r → Back (sequence l r)
 seq_back d bl br w (none a) = a

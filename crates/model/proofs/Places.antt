@@ -18,6 +18,7 @@ inside_r f a h = record { low = omega arith; high = omega arith }
 
 pub has_inside : (m : Model) (f : ℕ) {x : ℕ} → Has (mark f m) x → Inside f (length (symbols m)) x
 has_inside (symbol a) f h_here = record { low = omega arith; high = omega arith }
+has_inside empty f p = elim p [ ]
 has_inside (sequence l r) f (h_seq_l p) = rw length-append (inside_l (length (symbols r)) (has_inside l f p))
 has_inside (sequence l r) f (h_seq_r p) = rw length-append (inside_r f (length (symbols l)) (has_inside r (f + length (symbols l)) p))
 has_inside (choice l r) f (h_alt_l p) = rw length-append (inside_l (length (symbols r)) (has_inside l f p))

@@ -3,7 +3,7 @@
 #![tactic(auto)]
 
 // A token of a model in postfix: a symbol's number, `e`, `,`, `|`, `*`, `?` or `+`.
-#[derive(Drop)]
+#[derive(Clone, Copy)]
 pub enum Token {
     Symbol(u16),
     Empty,

@@ -14,7 +14,7 @@ use lib.Dec.{leb, ltb}
 use borrow.Author.Tests.{le-leb, lt-leb, lt-ltb, le-ltb}
 use Rattle.paper.specs.Limits.{at}
 use Rattle.rows.specs.Fill.{Filled}
-use Rattle.model.specs.Model.{Model, symbols, bears, places}
+use Rattle.model.specs.Model.{Model, symbols, places}
 use Rattle.model.specs.Sets.{comes, ends}
 use Rattle.model_sets.specs.Sets.{flag, Holds}
 use Rattle.compiled.specs.States.{State, inside, insides, the_state_at, may_end, goes_on_of}

@@ -6,7 +6,6 @@ use Rattle.model.specs.Model.{Model, places}
 use Rattle.model_line.specs.Line.{says, content}
 use Rattle.model_read.specs.Text.{symbols_in, said_by, models_of, TooManyStates, WellFormed}
 use Rattle.compiled.specs.States.{State, insides, states, the_state_at}
-use Rattle.model.specs.Documents.{Line}
 use Rattle.model_fill.specs.Ambiguity.{models_in, AmbiguousAt}
 use Rattle.model_fill.specs.Kept.{belongs_to, Long, Kept}
 

@@ -1,5 +1,7 @@
 // The states of a model text, kept in slices by their numbers: what each place bears, whom each state belongs to, where a word may end and
 // what can come next. Every text is taken: refusals 13 and 15, an ambiguous model, or its sizes. specs/Kept has what the slices hold.
+#![tactic(auto)]
+
 ghost use Rattle.std.specs.Prelude.{◌≡◌, [], ◌<◌, ◌*◌, length};
 ghost use Rattle.paper.specs.Limits.{limits};
 ghost use Rattle.paper.specs.Told.{Tells};

@@ -1,4 +1,6 @@
 // One line of a model text, taken apart. Both functions take every line: what has the shape of neither a header nor a model is told so.
+#![tactic(auto)]
+
 ghost use Rattle.std.specs.Prelude.{◌≡◌};
 ghost use Rattle.paper.specs.Limits.{limits};
 ghost use Rattle.model_line.specs.Line.{split_of, model_said, says, line_of};

@@ -7,8 +7,6 @@ use mathlib.Core.List.{List, [], ◌∷◌, ◌++◌}
 use native.Mathlib.Decide.{ℕ_discrete}
 use native.Mathlib.Numerals.{add-one}
 use native.Mathlib.Omega.{arith}
-use types.Run.{OneOf, miss}
-use denote.Enum.Declared.{tag_of}
 use borrow.Author.Count.{below_more}
 use lib.ListN.{length, get_or, take, drop, set, replicate, length-set, length-replicate, get_or-replicate}
 use lib.Seq.{get_or-set_same, get_or-set_other}
@@ -21,7 +19,6 @@ use Rattle.model.specs.Model.{Model, places}
 use Rattle.model_line.specs.Line.{Said, head, content, misshapen, says, line_of}
 use Rattle.model_line.specs.declared.Line.TheVariants as line
 use Rattle.model_line.specs.declared.Line as said
-use Rattle.model_line.specs.contracts.Line.{the_type}
 use Rattle.model_line.proofs.LineLaws.{known_content}
 use Rattle.compiled.specs.States.{states}
 use Rattle.model.specs.Documents.{Line}
@@ -84,10 +81,10 @@ good_at L s zero h l r = absurd (omega arith)
 good_at L s (suc k) h l r = good_to L s k l r
 
 -- a line that is no M line
-no_content : (n : ℕ) (before : List Line) (x : Said) → OneOf (0 ∷ (2 ∷ [])) (tag_of the_type (line_of x)) → LineWrong n before x
+no_content : (n : ℕ) (before : List Line) (x : Said) → ((a p : ℕ) → line_of x ≡ line.Model a p → ⊥) → LineWrong n before x
 unfolding line_of
 no_content n before (head y t) h = second_head
-no_content n before (content a m) h = absurd (miss (0 ∷ (2 ∷ [])) 1 tt h)
+no_content n before (content a m) h = absurd (h a (places m) refl)
 no_content n before misshapen h = no_shape
 
 -- so many states at most have the lines of any text, as far as they are read
@@ -154,9 +151,10 @@ module _ (L : Limits) where
             before = g.right;
           }))
 
-      pub going_shape : {x : Survey} → OneOf (0 ∷ (2 ∷ [])) (tag_of the_type l)
+      pub going_shape : {x : Survey} → ((a p : ℕ) → l ≡ line.Model a p → ⊥)
           → x ≡ Refused (record { number = 13; side = 0; place = k + 1 }) → told x ≡ survey_told L s
-      going_shape h q = refused_line (no_content n (models_of (take k (said_by L s))) (said_at (said_by L s) k) (rw is_line at h)) q
+      going_shape h q =
+          refused_line (no_content n (models_of (take k (said_by L s))) (said_at (said_by L s) k) (λ a p z. h a p (is_line ∙ z))) q
 
       -- an M line
       module _ {a p : ℕ} (hm : l ≡ line.Model a p) where

@@ -1,5 +1,7 @@
 // A model text read for the first time: is it well-formed (13), and does its table need too many states (15)? Every text is taken.
 // specs/Text has what a text says and what is wrong with it, specs/Work what is known behind its header.
+#![tactic(auto)]
+
 ghost use Rattle.std.specs.Prelude.{◌≡◌};
 ghost use Rattle.paper.specs.Limits.{limits};
 ghost use Rattle.paper.specs.Told.{Tells};

@@ -2,7 +2,7 @@
 use Prim.Native.Nat.{ℕ, ◌+◌, ◌*◌, ◌≤◌, ◌<◌}
 use mathlib.Core.Path.{◌≡◌, refl, sym, ap, ap₂, ◌∙◌}
 use mathlib.Core.Logic.{◌≢◌}
-use mathlib.Core.Bool.{Bool, true, false, not, cond, ◌&&◌, and_false}
+use mathlib.Core.Bool.{Bool, true, false, not, cond, ◌&&◌, and-false}
 use mathlib.Core.List.{List}
 use native.Mathlib.Omega.{arith}
 use borrow.Author.Tests.{eq-eqb, ne_eqb, le-leb, lt-ltb, leb-true, leb-false, ltb-true, ltb-false}
@@ -103,7 +103,7 @@ module _ {p : ℕ} {E₀ : List ℕ} {g : ℕ → Bool} {E : List ℕ} (m : Mark
   unfolding cleared flag
   marks_cleared t a b k f e =
       marks_painted m false f
-      (λ i o. rw (high_within a b i (omega arith)) (and_false (not (is_set (flag t)))))
+      (λ i o. rw (high_within a b i (omega arith)) (and-false (not (is_set (flag t)))))
       (λ i. rw (is_set_flag t) (e i))
 
   pub marks_set : (n : ℕ) {h : ℕ → Bool} → n ≤ p → n < length E → ((i : ℕ) → cond (within n (n + 1) i) true (g i) ≡ h i)
@@ -118,7 +118,7 @@ module _ {s p : ℕ} {N₀ : List ℕ} {f : ℕ → ℕ → Bool} {N : List ℕ}
   cells_cleared t a b k x e =
       cells_painted c false (changed_first s 0 a b (not (is_set (flag t))) (omega arith) x)
       (λ i y o. rw (ne_eqb i 0 (λ z. omega arith)) refl)
-      (λ i y o. rw (high_within a b y (omega arith), and_false (not (is_set (flag t)))) (and_false (eqb i 0)))
+      (λ i y o. rw (high_within a b y (omega arith), and-false (not (is_set (flag t)))) (and-false (eqb i 0)))
       (λ i y o q. rw (is_set_flag t) (e i y))
 
   pub cells_set : (n : ℕ) {g : ℕ → ℕ → Bool} → n < p → n < length N
@@ -127,7 +127,7 @@ module _ {s p : ℕ} {N₀ : List ℕ} {f : ℕ → ℕ → Bool} {N : List ℕ}
   cells_set n k l e =
       cells_painted c true (changed_first s 1 n (n + 1) true (omega arith) (painted_one 1 n N l))
       (λ i y o. rw (ne_eqb i 0 (λ z. omega arith)) refl)
-      (λ i y o. rw (high_within n (n + 1) y (omega arith)) (and_false (eqb i 0)))
+      (λ i y o. rw (high_within n (n + 1) y (omega arith)) (and-false (eqb i 0)))
       (λ i y o q. e i y)
 
 -- a link
@@ -138,7 +138,7 @@ unfolding joined flag
 cells_linked {s} {p} {g = g} {f = f} c d a b {E} {N} w k l m n x =
     cells_painted n true x
     (λ i y h. rw (high_within c d i (omega arith)) refl)
-    (λ i y h. rw (high_within a b y (omega arith)) (and_false (within c d i && is_set (at E i))))
+    (λ i y h. rw (high_within a b y (omega arith)) (and-false (within c d i && is_set (at E i))))
     (λ i y h j.
     let e : 0 * s + y ≡ y = omega arith in
     let z : at N y ≡ flag (f 0 y) = ap (at N) (sym e) ∙ cells_at n 0 y (omega arith) (omega arith) j in

@@ -13,7 +13,7 @@ use Rattle.paper.specs.Told.{Tells}
 use Rattle.paper.specs.Limits.{Limits, at}
 use Rattle.lines.proofs.Tests.{split}
 use Rattle.model.specs.Model.{Model, places}
-use Rattle.model.specs.Sets.{comes, ends}
+use Rattle.model.specs.Sets.{comes}
 use Rattle.postfix.specs.Field.{model_in, content_of}
 use Rattle.postfix.specs.declared.Content.{Content}
 use Rattle.postfix.specs.declared.Content.TheVariants as content

@@ -2,7 +2,7 @@
 use Prim.Native.Nat.{ℕ, zero, suc, ◌+◌, ◌≤◌, ◌<◌}
 use mathlib.Core.Path.{◌≡◌, refl, sym, ap, ap₂, ◌∙◌}
 use mathlib.Core.Logic.{◌≢◌, by_cases}
-use mathlib.Core.Bool.{Bool, true, false, not, cond, ◌&&◌, ◌||◌, and_comm, and_false, and_true, or_assoc, or-false, or-true}
+use mathlib.Core.Bool.{Bool, true, false, not, cond, ◌&&◌, ◌||◌, and_comm, and-false, and-true, or_assoc, or-false, or-true}
 use mathlib.Core.List.{List, [], ◌∷◌, ◌++◌}
 use native.Mathlib.Decide.{ℕ_discrete}
 use native.Mathlib.Omega.{arith}
@@ -98,16 +98,16 @@ module _ (l r : Model) (st : List Model) where
       ≡ firsts (sequence l r ∷ st) y
   firsts_sequence y =
       wherever (total (l ∷ st)) (total (r ∷ (l ∷ st))) y
-      (λ h. simp (low_within (total (l ∷ st)) (total (r ∷ (l ∷ st))) y h, first_below r (total (l ∷ st)) y h, and_false, or-false))
+      (λ h. simp (low_within (total (l ∷ st)) (total (r ∷ (l ∷ st))) y h, first_below r (total (l ∷ st)) y h, and-false, or-false))
       (λ h k. simp (
         in_within (total (l ∷ st)) (total (r ∷ (l ∷ st))) y h k,
         firsts_above st y (omega (arith, h)),
         first_above l (total st) y h,
         mark_nullable l (total st),
-        and_true,
+        and-true,
       )
       (sym (kept_not (nullable l) (first (mark (total (l ∷ st)) r) y))))
-      (λ h. simp (high_within (total (l ∷ st)) (total (r ∷ (l ∷ st))) y h, first_above r (total (l ∷ st)) y h, and_false, or-false))
+      (λ h. simp (high_within (total (l ∷ st)) (total (r ∷ (l ∷ st))) y h, first_above r (total (l ∷ st)) y h, and-false, or-false))
 
   -- and the lasts of the left unless the right can be empty
   lasts_sequence : (x : ℕ)
@@ -118,7 +118,7 @@ module _ (l r : Model) (st : List Model) where
         low_within (total st) (total (l ∷ st)) x h,
         last_below l (total st) x h,
         last_below r (total (l ∷ st)) x (omega (arith, h)),
-        and_false,
+        and-false,
         or-false,
       ))
       (λ h k. simp (
@@ -126,12 +126,12 @@ module _ (l r : Model) (st : List Model) where
         lasts_above st x h,
         last_below r (total (l ∷ st)) x k,
         mark_nullable r (total (l ∷ st)),
-        and_true,
+        and-true,
         or-false,
         and_comm (last (mark (total st) l) x) (nullable r),
       )
       (sym (kept_not (nullable r) (last (mark (total st) l) x))))
-      (λ h. simp (high_within (total st) (total (l ∷ st)) x h, last_above l (total st) x h, and_false, or-false))
+      (λ h. simp (high_within (total st) (total (l ∷ st)) x h, last_above l (total st) x h, and-false, or-false))
 
   -- and lets the firsts of the right follow the lasts of the left
   second_last : (x : ℕ) → last (mark (total st) l) x ≡ (within (total st) (total (l ∷ st)) x && lasts (r ∷ (l ∷ st)) x)
@@ -173,13 +173,13 @@ module _ (l r : Model) (st : List Model) where
       (cond (across (r ∷ (l ∷ st)) (total st + 1) (total (l ∷ st) + 1) (total (l ∷ st)) (total (r ∷ (l ∷ st))) i y) true
       (coming (r ∷ (l ∷ st)) i y))
       ≡ coming (sequence l r ∷ st) i y
-  coming_sequence zero y = rw (and_false (within (total st + 1) (total (l ∷ st) + 1) 0)) (firsts_sequence l r st y)
+  coming_sequence zero y = rw (and-false (within (total st + 1) (total (l ∷ st) + 1) 0)) (firsts_sequence l r st y)
   coming_sequence (suc x) y = rw (eqb-suc-zero x) (follows_sequence l r st x y)
 
   pub ending_sequence : (i : ℕ)
       → cond (not (nullable r) && within (total st + 1) (total (l ∷ st) + 1) i) false (ending (r ∷ (l ∷ st)) i)
       ≡ ending (sequence l r ∷ st) i
-  ending_sequence zero = rw (low_within (total st + 1) (total (l ∷ st) + 1) 0 (omega arith), and_false (not (nullable r))) refl
+  ending_sequence zero = rw (low_within (total st + 1) (total (l ∷ st) + 1) 0 (omega arith), and-false (not (nullable r))) refl
   ending_sequence (suc x) = rw (within_suc (total st) (total (l ∷ st)) x) (lasts_sequence l r st x)
 
   pub coming_choice : (i y : ℕ) → coming (r ∷ (l ∷ st)) i y ≡ coming (choice l r ∷ st) i y
@@ -193,7 +193,7 @@ module _ (l r : Model) (st : List Model) where
 pub coming_star : (m : Model) (st : List Model) (i y : ℕ)
     → cond (across (m ∷ st) (total st + 1) (total (m ∷ st) + 1) (total st) (total (m ∷ st)) i y) true (coming (m ∷ st) i y)
     ≡ coming (star m ∷ st) i y
-coming_star m st zero y = rw (and_false (within (total st + 1) (total (m ∷ st) + 1) 0)) refl
+coming_star m st zero y = rw (and-false (within (total st + 1) (total (m ∷ st) + 1) 0)) refl
 coming_star m st (suc x) y = follows_star m st x y
 
 -- `+` as `*`, and `?` as the model alone

@@ -6,8 +6,6 @@ use mathlib.Core.Option.{Option, none, some}
 use mathlib.Core.List.{List, [], ◌∷◌, ◌++◌}
 use native.Mathlib.Nat.{zero-add}
 use native.Mathlib.Omega.{arith}
-use types.Run.{OneOf, miss}
-use denote.Enum.Declared.{tag_of}
 use borrow.Author.Tests.{le-ltb, leb-true, ltb-true, le-leb}
 use lib.ListN.{length, set, drop, length-drop, length-set}
 use lib.Seq.{get_or-set_same, get_or-set_other}
@@ -23,7 +21,6 @@ use Rattle.postfix.specs.Token.{parts, token_of, one, token_at}
 use Rattle.postfix.specs.Field.{ahead, tokens_of, written, model_in}
 use Rattle.postfix.specs.declared.Reading.{Reading}
 use Rattle.postfix.specs.declared.Reading.TheVariants.{One}
-use Rattle.postfix.specs.contracts.Reading.{the_type}
 use Rattle.postfix.proofs.TokenLaws.{none_some}
 use Rattle.postfix.proofs.Parts.{front, front_short}
 use Rattle.postfix.proofs.Stack.{left, left_cut, left_end, token_given}
@@ -156,10 +153,10 @@ module _ (L : Limits) where
       cut {o} {j} e q = sym (ap (tokens_of n) (left_cut f i h) ∙ rw (e, ← q) refl) ∙ g.tokens
 
       -- something bad is never read
-      pub going_bad : {r : Reading} → r ≡ token_at n f i → OneOf (1 ∷ (2 ∷ [])) (tag_of the_type r) → ⊥
+      pub going_bad : {r : Reading} → r ≡ token_at n f i → ((t : Token) (j : ℕ) → r ≡ One t j → ⊥) → ⊥
       going_bad {r} e t =
           let x = ahead_token (token_of n (front (drop i f))) (tokens_of n (left f (i + suc (length (front (drop i f)))))) (cut refl refl) in
-          miss (1 ∷ (2 ∷ [])) 0 tt (rw (e ∙ token_is n f i h x.1) at t)
+          t x.0 (i + suc (length (front (drop i f)))) (e ∙ token_is n f i h x.1)
 
       module _ {t : Token} {j : ℕ} (e : token_at n f i ≡ One t j) where
         rest : (us : List Token) × ((tokens_of n (left f j) ≡ some us) × (g.ts ≡ t ∷ us))

@@ -2,7 +2,7 @@
 use Prim.Native.Nat.{ℕ, suc, ◌+◌, ◌*◌, ◌-◌, ◌≤◌, ◌<◌}
 use mathlib.Core.Path.{◌≡◌, refl, sym, ap, ◌∙◌}
 use mathlib.Core.Logic.{◌≢◌, by_cases}
-use mathlib.Core.Bool.{Bool, true, false, not, cond, ◌&&◌, and_false}
+use mathlib.Core.Bool.{Bool, true, false, not, cond, ◌&&◌, and-false}
 use mathlib.Core.List.{List}
 use native.Mathlib.Nat.{mul-le-mul_right, add-mul}
 use native.Mathlib.Decide.{ℕ_discrete}
@@ -26,7 +26,7 @@ low_within a b j h = rw (lt-ltb j a h) refl
 
 pub high_within : (a b j : ℕ) → b ≤ j → within a b j ≡ false
 unfolding within
-high_within a b j h = rw (le-ltb j b h) (and_false (not (ltb j a)))
+high_within a b j h = rw (le-ltb j b h) (and-false (not (ltb j a)))
 
 -- three cases
 pub wherever : {C : Type 0} (a b j : ℕ) → (j < a → C) → (a ≤ j → j < b → C) → (b ≤ j → C) → C

@@ -5,8 +5,6 @@ use mathlib.Core.Option.{Option, none, some}
 use mathlib.Core.List.{List, [], ◌∷◌, ◌++◌, append_assoc, append-nil}
 use native.Mathlib.Numerals.{add-one}
 use native.Mathlib.Omega.{arith}
-use types.Run.{OneOf, miss}
-use denote.Enum.Declared.{tag_of}
 use lib.ListN.{length, set, drop}
 use lib.Seq.{drop-cons, set_at, append_snoc}
 use Rattle.paper.specs.Limits.{at}
@@ -14,7 +12,6 @@ use Rattle.model.specs.Model.{Model, symbol, empty, sequence, choice, star, mayb
 use Rattle.model.specs.Postfix.{push, two, last, single, then, read}
 use Rattle.model.specs.declared.Token.{Token}
 use Rattle.model.specs.declared.Token.TheVariants.{Symbol, Empty, Comma, Bar, Star, Query, Plus}
-use Rattle.model.specs.contracts.Token.{the_type}
 use Rattle.postfix.proofs.TokenLaws.{none_some}
 use Rattle.model_sets.specs.Stack.{borne, total, bearing}
 use Rattle.model_sets.proofs.Flags.{total_two, borne_length}
@@ -126,9 +123,9 @@ pub bear_one : {t : Token} {a : ℕ} (n : ℕ) (B : List ℕ) → t ≡ Symbol a
 unfolding bearing
 bear_one n B e = rw e refl
 
-pub bear_none : (t : Token) (n : ℕ) (B : List ℕ) → OneOf (1 ∷ (2 ∷ (3 ∷ (4 ∷ (5 ∷ (6 ∷ [])))))) (tag_of the_type t) → B ≡ bearing t n B
+pub bear_none : (t : Token) (n : ℕ) (B : List ℕ) → ((a : ℕ) → t ≡ Symbol a → ⊥) → B ≡ bearing t n B
 unfolding bearing
-bear_none (Symbol a) n B h = absurd (miss (1 ∷ (2 ∷ (3 ∷ (4 ∷ (5 ∷ (6 ∷ [])))))) 0 tt h)
+bear_none (Symbol a) n B h = absurd (h a refl)
 bear_none Empty n B h = refl
 bear_none Comma n B h = refl
 bear_none Bar n B h = refl

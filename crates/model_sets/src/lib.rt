@@ -1,6 +1,8 @@
 // The sets of one model, from its token field: what each place bears, at which positions of its words a word may end, and which place can
 // come next at which position. One pass over the tokens, with a stack of the models so far: each covers a stretch of places, so one row
 // of flags and one flag a position serve all of them at once.
+#![tactic(auto)]
+
 ghost use Rattle.std.specs.Prelude.{◌≡◌, cond, ℕ, ◌+◌, ◌*◌, ◌-◌, ◌≤◌, ◌<◌, length, set};
 ghost use Rattle.std.proofs.Math.Option.{some};
 ghost use Rattle.paper.specs.Told.{Tells};

@@ -14,7 +14,7 @@ use Rattle.paper.proofs.VerdictLaws.{first_wrong, first_none}
 use Rattle.paper.specs.First.{FirstWrong}
 use Rattle.put.specs.Put.{Put}
 use Rattle.table.specs.Room.{NoRoom}
-use Rattle.compiled.specs.States.{states, marks}
+use Rattle.compiled.specs.States.{states}
 use Rattle.compiled.specs.Rules.{rules, numbers}
 use Rattle.compiled.specs.Valid.{GoodLines}
 use Rattle.compiled.proofs.Rows.{length_numbers}
@@ -32,7 +32,7 @@ use Rattle.model_fill.proofs.Ambiguities.{ambiguity_verdict}
 use Rattle.model_table.specs.Compile.{the_marks_by, rules_by, compile_told, Fit, told, Compiles}
 use Rattle.model_table.specs.Work.{marks_for, the_numbers_by, Roomy, the_count_by}
 use Rattle.model_table.specs.declared.Compiled.{Compiled}
-use Rattle.model_table.specs.declared.Compiled.TheVariants.{Table, Refused}
+use Rattle.model_table.specs.declared.Compiled.TheVariants.{Table}
 use Rattle.model_table.proofs.Rest.{front_put}
 use Rattle.model_table.proofs.ByKept.{numbers_by, count_by, marks_by}
 use Rattle.model_table.proofs.Exact.{compile_survey, compile_ambiguous, compile_rules, compile_table, first_ambiguous}

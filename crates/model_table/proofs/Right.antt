@@ -18,8 +18,8 @@ use Rattle.model.specs.Model.{Model}
 use Rattle.model.specs.Documents.{Doc, binary, Derives}
 use Rattle.model.specs.Documents.{doc}
 use Rattle.model_line.specs.Line.{Said, head, content, misshapen}
-use Rattle.compiled.specs.States.{states, marks}
-use Rattle.model.specs.Documents.{Line, model_of}
+use Rattle.compiled.specs.States.{states}
+use Rattle.model.specs.Documents.{model_of}
 use Rattle.compiled.specs.Rules.{rules}
 use Rattle.compiled.specs.Valid.{Valid, Unambiguous}
 use Rattle.compiled.proofs.Lines.{none_some, model_cases_lem}

@@ -1,6 +1,8 @@
 // A model text turned into a table. Every text is taken: the table, which accepts the binary form of exactly the documents that the models
 // derive, stands at the fronts of the lent slices, or a refusal leaves them as they were: 1, 13, 15, 14, 16, decided before anything is
 // written. specs/Compile has what a text tells.
+#![tactic(auto)]
+
 ghost use Rattle.std.specs.Prelude.{◌≡◌, ◌++◌, ◌*◌, ◌≤◌, ◌<◌, length, drop};
 ghost use Rattle.paper.specs.Limits.{limits};
 ghost use Rattle.put.specs.Put.{Put, Fit};

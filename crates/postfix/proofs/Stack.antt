@@ -9,8 +9,6 @@ use lib.Dec.{ltb, leb}
 use lib.ListN.{length, drop, length-drop, length-append}
 use lib.Seq.{drop-drop}
 use borrow.Author.Tests.{le-ltb, le-leb, lt-leb, ltb-true, ltb-false}
-use types.Run.{OneOf, miss}
-use denote.Enum.Declared.{tag_of}
 use Rattle.paper.specs.Limits.{Limits}
 use Rattle.lines.proofs.Tests.{split}
 use Rattle.model.specs.Model.{Model, symbol, empty, sequence, choice, star, maybe, plus, symbols, places}
@@ -23,7 +21,6 @@ use Rattle.postfix.specs.Field.{ahead, tokens_of, written, model_in, content_of}
 use Rattle.postfix.specs.declared.Content.TheVariants.{Places, Bad}
 use Rattle.postfix.specs.declared.Reading.{Reading}
 use Rattle.postfix.specs.declared.Reading.TheVariants as reading
-use Rattle.postfix.specs.contracts.Reading.{the_type}
 use Rattle.postfix.proofs.Parts.{front, behind, parts_cut, front_short}
 
 -- how many places a stack has
@@ -181,7 +178,7 @@ module _ (n : ℕ) (f : List ℕ) (i : ℕ) (h : i ≤ length f) where
       let w : i + suc (length (front (drop i f))) ≡ j = cc in
       (z ∙ ap some x, sym w))
 
-  pub token_bad : OneOf (1 ∷ (2 ∷ [])) (tag_of the_type (token_at n f i)) → token_of n (front (drop i f)) ≡ none
+  pub token_bad : ((t : Token) (j : ℕ) → token_at n f i ≡ reading.One t j → ⊥) → token_of n (front (drop i f)) ≡ none
   unfolding one
   token_bad e =
       options (token_of n (front (drop i f)))
@@ -189,7 +186,7 @@ module _ (n : ℕ) (f : List ℕ) (i : ℕ) (h : i ≤ length f) where
       (λ u z.
       let y : token_at n f i ≡ reading.One u (i + suc (length (front (drop i f)))) =
       token_first ∙ ap (λ o. one o (i + suc (length (front (drop i f))))) z in
-      absurd (miss (1 ∷ (2 ∷ [])) 0 tt (rw y at e)))
+      absurd (e u (i + suc (length (front (drop i f)))) y))
 
 -- the stack at the end
 one_left : (st : List Model) → length st ≡ 1 → Places (total st) ≡ content_of (single st)
@@ -213,9 +210,10 @@ module _ {L : Limits} {n : ℕ} {f : List ℕ} {i count depth size : ℕ} (g : R
     step_same {o} {j} e q =
         g.same ∙ ap (λ ps. going L count (tokens_of n ps) g.models) (left_cut f i h) ∙ rw (e, ← q)
 
-    pub reached_bad : {r : Reading} → r ≡ token_at n f i → OneOf (1 ∷ (2 ∷ [])) (tag_of the_type r) → Bad ≡ content_of (model_in L n f)
+    pub reached_bad : {r : Reading} → r ≡ token_at n f i → ((t : Token) (j : ℕ) → r ≡ reading.One t j → ⊥)
+        → Bad ≡ content_of (model_in L n f)
     unfolding content_of going ahead
-    reached_bad {r} e k = rw (step_same (token_bad n f i h (rw e at k)) refl)
+    reached_bad {r} e k = rw (step_same (token_bad n f i h (λ t j z. k t j (e ∙ z))) refl)
 
     module _ {t : Token} {j : ℕ} (e : token_at n f i ≡ reading.One t j) where
       pub token_same : model_in L n f ≡ going L count (ahead (some t) (tokens_of n (left f j))) g.models

@@ -9,9 +9,6 @@ use lib.Dec.{ltb, eqb}
 use lib.ListN.{length, get_or, drop, length-drop, drop_of_length-le}
 use lib.Seq.{get_or-drop}
 use borrow.Author.Tests.{lt-ltb, le-ltb, eqb-true, eqb-false, eq-eqb, ne_eqb, ltb-true, ltb-false}
-use types.Run.{OneOf, miss}
-use denote.Enum.Declared.{tag_of}
-use Rattle.model.specs.contracts.Token.{the_type}
 use Rattle.lines.specs.Number.{digit, number}
 use Rattle.lines.specs.declared.Number.TheVariants.{Value, Bad}
 use Rattle.lines.proofs.Tests.{split}
@@ -27,9 +24,9 @@ use Rattle.postfix.specs.declared.Reading.TheVariants as read
 use Rattle.postfix.proofs.Parts.{front, front_byte, front_space, front_inside, front_end, front_short, moved, number_front}
 
 -- only a symbol adds a place
-pub adds_none : (t : Token) → OneOf (1 ∷ (2 ∷ (3 ∷ (4 ∷ (5 ∷ (6 ∷ [])))))) (tag_of the_type t) → 0 ≡ adds t
+pub adds_none : (t : Token) → ((a : ℕ) → t ≡ Symbol a → ⊥) → 0 ≡ adds t
 unfolding adds
-adds_none (Symbol a) h = absurd (miss (1 ∷ (2 ∷ (3 ∷ (4 ∷ (5 ∷ (6 ∷ [])))))) 0 tt h)
+adds_none (Symbol a) h = absurd (h a refl)
 adds_none Empty h = refl
 adds_none Comma h = refl
 adds_none Bar h = refl

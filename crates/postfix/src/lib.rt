@@ -1,5 +1,7 @@
 // Models in postfix, read: one token, and a whole field of them. Both readers take every field: the first yields one token and where the
 // next begins, or that there is none, or that it is bad; the second how many places the model has, or that the field writes none.
+#![tactic(auto)]
+
 ghost use Rattle.std.specs.Prelude.{◌≡◌, ◌≤◌, length};
 ghost use Rattle.paper.specs.Limits.{limits};
 ghost use Rattle.postfix.specs.Token.{token_at};

@@ -1,0 +1,61 @@
+use mathlib.Core.Path.{refl, sym, ◌∙◌}
+use native.Mathlib.Omega.{arith}
+use Rattle.paper.specs.Limits.{limits}
+use Rattle.lines.proofs.LinesLaws.{lines_at}
+use Rattle.model_fill.proofs.Going.{second_line, going_start, going_few, line_room, going_ambiguous, going_more, going_end}
+use Rattle.model_fill.proofs.add_lines.Goals as goal
+
+pub loop-at-init : goal.loop-at-init
+loop-at-init c = going_start limits (omega arith) c.requires.0 c.requires.1 (second_line limits (omega arith) c.requires.0 c.line_end-at.ensures)
+
+pub slice_bounds-add_line-count : goal.slice_bounds-add_line-count
+slice_bounds-add_line-count c = omega (arith, (lines_at _ _ _ c.loop-at-test.true c.line_end-end.ensures).0)
+
+pub slice_bounds-add_line-start : goal.slice_bounds-add_line-start
+slice_bounds-add_line-start c = omega (arith, (lines_at _ _ _ c.loop-at-test.true c.line_end-end.ensures).0)
+
+pub slice_bounds-add_line-end : goal.slice_bounds-add_line-end
+slice_bounds-add_line-end c = (lines_at _ _ _ c.loop-at-test.true c.line_end-end.ensures).1
+
+pub add_line-behind-requires : goal.add_line-behind-requires
+add_line-behind-requires c = (line_room limits (omega arith) c.loop-at.invariant c.loop-at-test.true, c.loop-at.invariant.kept.long)
+
+pub overflow_add-k : goal.overflow_add-k
+overflow_add-k c = omega (arith, going_few limits (omega arith) c.loop-at.invariant)
+
+pub shape_of-bears-then-clashes : goal.shape_of-bears-then-clashes
+shape_of-bears-then-clashes c = c.add_line-behind.ensures.long.bears ∙ sym c.requires.1.long.bears
+
+pub shape_of-owners-then-clashes : goal.shape_of-owners-then-clashes
+shape_of-owners-then-clashes c = c.add_line-behind.ensures.long.owners ∙ sym c.requires.1.long.owners
+
+pub shape_of-ends-then-clashes : goal.shape_of-ends-then-clashes
+shape_of-ends-then-clashes c = c.add_line-behind.ensures.long.ends ∙ sym c.requires.1.long.ends
+
+pub shape_of-next-then-clashes : goal.shape_of-next-then-clashes
+shape_of-next-then-clashes c = c.add_line-behind.ensures.long.next ∙ sym c.requires.1.long.next
+
+pub returns-then-clashes : goal.returns-then-clashes
+returns-then-clashes c = going_ambiguous limits (omega arith) c.loop-at.invariant c.loop-at-test.true c.line_end-end.ensures refl c.add_line-behind.ensures refl c.clashes.ensures c.if-clashes.true
+
+pub loop-at-smaller : goal.loop-at-smaller
+loop-at-smaller c = let z = (lines_at _ _ _ c.loop-at-test.true c.line_end-end.ensures).0 in
+    omega (arith, z, c.loop-at-test.true)
+
+pub loop-at-preserved : goal.loop-at-preserved
+loop-at-preserved c = going_more limits (omega arith) c.loop-at.invariant c.loop-at-test.true c.line_end-end.ensures refl c.add_line-behind.ensures c.clashes.ensures c.if-clashes.false
+
+pub shape_of-bears : goal.shape_of-bears
+shape_of-bears c = c.loop-at.invariant.kept.long.bears ∙ sym c.requires.1.long.bears
+
+pub shape_of-owners : goal.shape_of-owners
+shape_of-owners c = c.loop-at.invariant.kept.long.owners ∙ sym c.requires.1.long.owners
+
+pub shape_of-ends : goal.shape_of-ends
+shape_of-ends c = c.loop-at.invariant.kept.long.ends ∙ sym c.requires.1.long.ends
+
+pub shape_of-next : goal.shape_of-next
+shape_of-next c = c.loop-at.invariant.kept.long.next ∙ sym c.requires.1.long.next
+
+pub returns : goal.returns
+returns c = going_end limits (omega arith) c.loop-at.invariant c.loop-at-test.false

@@ -1,0 +1,18 @@
+use native.Mathlib.Omega.{arith}
+use Rattle.model_sets.proofs.Painting.{clear_kept, clear_start, clear_more, clear_end}
+use Rattle.model_sets.proofs.clear.Goals as goal
+
+pub returns-then-kept-ne0 : goal.returns-then-kept-ne0
+returns-then-kept-ne0 c = clear_kept _ _ _ _ c.if-kept-ne0.true
+
+pub loop-j-init : goal.loop-j-init
+loop-j-init c = (omega arith, (omega arith, clear_start _ _))
+
+pub bounds-flags-j : goal.bounds-flags-j
+bounds-flags-j c = omega (arith, c.loop-j.invariant.1.1.size)
+
+pub loop-j-preserved : goal.loop-j-preserved
+loop-j-preserved c = (omega arith, (omega arith, clear_more _ _ _ _ c.loop-j.invariant.0 (omega (arith, c.loop-j.invariant.1.1.size)) c.loop-j.invariant.1.1))
+
+pub returns : goal.returns
+returns c = clear_end _ _ _ _ _ _ c.if-kept-ne0.false (omega arith) c.loop-j.invariant.1.1
