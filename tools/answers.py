@@ -74,8 +74,6 @@ class Names:
     def path(self, place, ups, fields):
         """`c`, so many .before, then fields, in today's names. A step that was respelled as a lemma of its name has its own name back."""
         start = place
-        # the name of a parameter is a name of the source
-        fields = [plain(f) if i and fields[i - 1] in ("args", "ranges", "new", "auto") else f for i, f in enumerate(fields)]
         new = self.way(place, ups, fields)
         for first in [BACK[fields[0]]] if fields and fields[0] in BACK else []:
             new = new or self.way(place, ups, [first, *fields[1:]])
@@ -109,7 +107,7 @@ class Names:
                 return ".".join(["c", arms[0], best[0], *rest[len(best[1]):]])
         if old and first == plain(old):
             return ".".join(["c", new, *rest])
-        if parent is None and fields[0] in ("args", "ranges", "requires", "well_formed", "lifetimes"):
+        if parent is None:
             return ".".join(["c", *fields])
         # `before` may be left out where a field is of an earlier step
         return None
@@ -120,7 +118,22 @@ def near(need, old):
     return plain(need) == plain(old) or strip(need) == strip(old)
 
 
+ALIAS = re.compile(r"let (\S+) = (c(?:\.before)*) in\s*")
+
+
+def unalias(text):
+    """`let b = c.before.before in .. b.x ..` becomes `.. c.before.before.x ..`"""
+    while True:
+        m = ALIAS.search(text)
+        if not m:
+            return text
+        rest = text[m.end():]
+        rest = re.sub(r"(?<![^\s(){}\[\],;⟨⟩])" + re.escape(m.group(1)) + r"(?=[\s(){}\[\],;.]|$)", m.group(2), rest)
+        text = text[: m.start()] + rest
+
+
 def turn_paths(names, place, text, said, who):
+    text = unalias(text)
     def one(m):
         fields = [f for f in m.group(3).split(".") if f]
         new = names.path(place, m.group(2).count(".before"), fields)

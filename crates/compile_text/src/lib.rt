@@ -1,5 +1,7 @@
 // From bytes to bytes: the answer to a model text, which is the rule text of its table or the line of a refusal. What the program
 // `compile` does between reading and writing. specs/Answer has the text of the answer.
+#![tactic(auto)]
+
 ghost use Rattle.paper.specs.Limits.{limits};
 ghost use Rattle.rule_write.specs.Write.{told};
 ghost use Rattle.answers.specs.Written.{WritesText};

@@ -2,6 +2,8 @@
 // numbering. They take every input. crates/embed_c exports them to C, where a lent slice is a pointer and a count, which the caller vouches
 // for.
 // specs/Numbers has which numbers stand for what is told, specs/Says what each function promises.
+#![tactic(auto)]
+
 ghost use Rattle.std.specs.Prelude.{◌≡◌};
 ghost use Rattle.paper.specs.Told.{check_told};
 ghost use Rattle.rule_read.specs.Text as reading;
