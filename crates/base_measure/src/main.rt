@@ -1,14 +1,16 @@
 // The inputs whose cost docs/MEASURES.md tells: the fullest rule text, the largest tree under a star over a choice of 23 symbols, and
 // the tree and table at which acceptance is slowest. Each is one function, so that its instructions can be counted.
+#![tactic(auto)]
+
 ghost use Rattle.std.specs.Prelude.{◌≡◌, length};
 
 use accept::Answer;
-use libc::STDOUT_FILENO;
 use rule_read::Reading;
+use std::io;
 
 // Prints a text.
-fn say(text: &[u8]) {
-    io::write_all(STDOUT_FILENO, text);
+fn say(rt: &impl Print, text: &[u8]) -> io::Result<()> {
+    rt.write_all(text)
 }
 
 // Puts rule i, where the slice has room for it.
@@ -54,16 +56,16 @@ fn chain(nodes: &mut [u16]) {
 }
 
 // Prints what is answered.
-fn tell(a: Answer) {
+fn tell(rt: &impl Print, a: Answer) -> io::Result<()> {
     match a {
-        Answer::Accepted => say(b"accepted\n"),
-        Answer::Rejected => say(b"rejected\n"),
-        Answer::Refused(_) => say(b"refused\n"),
+        Answer::Accepted => say(rt, b"accepted\n"),
+        Answer::Rejected => say(rt, b"rejected\n"),
+        Answer::Refused(_) => say(rt, b"refused\n"),
     }
 }
 
 // The largest tree under the star: 47 states, 577 rules, 3,660 nodes.
-fn star() {
+fn star(rt: &impl Print) -> io::Result<()> {
     let mut marks = [2u16; 47];
     let mut rules = [0u16; 2308];
     let mut nodes = [0u16; 2 * paper::NODES];
@@ -76,7 +78,7 @@ fn star() {
     star_joins(&mut rules);
     chain(&mut nodes);
     nodes[1] = paper::LEAF;
-    tell(accept::accept(23, &marks, &rules, &nodes));
+    tell(rt, accept::accept(23, &marks, &rules, &nodes))
 }
 
 // The ε rules of the slowest table: its states in a chain, the last rule first, so that each pass adds one state.
@@ -108,7 +110,7 @@ fn slow_joins(rules: &mut [u16]) {
 }
 
 // The slowest table and tree: 60 states, 600 rules, 3,660 leaves.
-fn slowest() {
+fn slowest(rt: &impl Print) -> io::Result<()> {
     let mut marks = [6u16; paper::STATES];
     let mut rules = [0u16; paper::RULE_NUMBERS];
     let mut nodes = [paper::LEAF; 2 * paper::NODES];
@@ -119,7 +121,7 @@ fn slowest() {
     for i in 0..paper::NODES {
         nodes[2 * i] = 0;
     }
-    tell(accept::accept(1, &marks, &rules, &nodes));
+    tell(rt, accept::accept(1, &marks, &rules, &nodes))
 }
 
 // The state lines of the fullest text, written from `from` on.
@@ -156,23 +158,23 @@ fn write_text(out: &mut [u8]) -> usize {
 }
 
 // The fullest text, written and read.
-fn fullest() {
+fn fullest(rt: &impl Print) -> io::Result<()> {
     let mut text = [0u8; paper::TEXT];
     let mut marks = [0u16; paper::STATES];
     let mut rules = [0u16; paper::RULE_NUMBERS];
     let n = write_text(&mut text);
     if paper::TEXT < n {
-        return;
+        return Ok(());
     }
     match rule_read::read_text(&text[..n], &mut marks, &mut rules) {
-        Reading::Read(_, _, _) => say(b"read\n"),
-        Reading::Refused(_) => say(b"refused\n"),
+        Reading::Read(_, _, _) => say(rt, b"read\n"),
+        Reading::Refused(_) => say(rt, b"refused\n"),
     }
 }
 
 // Prints an answer for each input.
-fn main() {
-    fullest();
-    star();
-    slowest();
+fn main(rt: HostRuntime) -> io::Result<()> {
+    fullest(&rt)?;
+    star(&rt)?;
+    slowest(&rt)
 }

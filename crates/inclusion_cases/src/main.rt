@@ -1,10 +1,14 @@
 // Cases of the inclusion test, each a file of data/ with the room for a witness and two tables in numbers; a witness is held against both
 // tables by acceptance, and its height is told. The file stdout beside src/ has what each must be told, and docs/CASES.md what each is.
+#![tactic(auto)]
+
 ghost use Rattle.std.specs.Prelude.{◌≡◌, ◌+◌, ◌*◌, ◌≤◌, length};
 ghost use Rattle.lines.specs.Number.{most_number};
 
 use accept::Answer as Judgement;
 use inclusion::Answer;
+use std::io;
+use std::rt::Files;
 
 // So many cases there are, i01 ..
 const CASES: usize = 57;
@@ -43,13 +47,13 @@ fn table_at(all: &[u16], a: usize) -> Place
 }
 
 // Says whether a table accepts a tree.
-fn judge(all: &[u16], t: Place, nodes: &[u16]) {
+fn judge(rt: &impl Print, all: &[u16], t: Place, nodes: &[u16]) -> io::Result<()> {
     let marks = say::part(all, t.marks, t.states);
     let rules = say::part(all, t.rules, t.count);
     match accept::accept(t.symbols, marks, rules, nodes) {
-        Judgement::Accepted => say::text(b"\taccepted"),
-        Judgement::Rejected => say::text(b"\trejected"),
-        Judgement::Refused(f) => say::refusal(f),
+        Judgement::Accepted => say::text(rt, b"\taccepted"),
+        Judgement::Rejected => say::text(rt, b"\trejected"),
+        Judgement::Refused(f) => say::refusal(rt, f),
     }
 }
 
@@ -83,45 +87,56 @@ fn put(all: &mut [u16], i: usize, v: u16)
 // The height of a tree, with the heights of its nodes in the slice, as far as it goes.
 fn height(nodes: &[u16], heights: &mut [u16]) -> u16 {
     let mut last = 0;
-    let mut i = 0;
-    while i < nodes.len() / 2 {
+    for i in 0..nodes.len() / 2 {
         last = node_height(nodes, i, heights);
         put(heights, i, last);
-        i += 1;
     }
     last
 }
 
 // The nodes of a small witness.
-fn list(nodes: &[u16]) {
+fn list(rt: &impl Print, nodes: &[u16]) -> io::Result<()> {
     if 2 * SHOWN < nodes.len() {
-        return;
+        return Ok(());
     }
-    let mut i = 0;
-    while i < nodes.len() {
-        say::field(nodes[i] as usize);
-        i += 1;
+    for number in nodes {
+        say::field(rt, *number as usize)?;
     }
+    Ok(())
 }
 
 // A witness of k nodes: their number, the tree's height, whether each table accepts it, and the nodes; and whether what stands behind it
 // has changed.
-fn show(all: &[u16], sender: Place, receiver: Place, room: &[u16], k: usize) {
-    say::text(b"\twitness");
-    say::field(k);
+fn show(
+    rt: &impl Print,
+    all: &[u16],
+    sender: Place,
+    receiver: Place,
+    room: &[u16],
+    k: usize,
+) -> io::Result<()> {
+    say::text(rt, b"\twitness")?;
+    say::field(rt, k)?;
     if k <= room.len() / 2 {
         let mut heights = [0u16; paper::NODES];
         let nodes = &room[..2 * k];
-        say::field(height(nodes, &mut heights) as usize);
-        judge(all, sender, nodes);
-        judge(all, receiver, nodes);
-        list(nodes);
-        say::changed(&room[2 * k..]);
+        say::field(rt, height(nodes, &mut heights) as usize)?;
+        judge(rt, all, sender, nodes)?;
+        judge(rt, all, receiver, nodes)?;
+        list(rt, nodes)?;
+        say::changed(rt, &room[2 * k..])?;
     }
+    Ok(())
 }
 
 // Says what the inclusion test answers.
-fn tell(all: &[u16], sender: Place, receiver: Place, room: &mut [u16]) {
+fn tell(
+    rt: &impl Print,
+    all: &[u16],
+    sender: Place,
+    receiver: Place,
+    room: &mut [u16],
+) -> io::Result<()> {
     let answer = inclusion::include(
         sender.symbols,
         say::part(all, sender.marks, sender.states),
@@ -132,37 +147,39 @@ fn tell(all: &[u16], sender: Place, receiver: Place, room: &mut [u16]) {
         room,
     );
     match answer {
-        Answer::Witness(k) => show(all, sender, receiver, room, k),
+        Answer::Witness(k) => show(rt, all, sender, receiver, room, k)?,
         Answer::Included => {
-            say::text(b"\tincluded");
-            say::changed(room);
+            say::text(rt, b"\tincluded")?;
+            say::changed(rt, room)?;
         }
         Answer::Refused(f) => {
-            say::refusal(f);
-            say::changed(room);
+            say::refusal(rt, f)?;
+            say::changed(rt, room)?;
         }
     }
-    say::text(b"\n");
+    say::text(rt, b"\n")
 }
 
 // Case n, its witness slice full of FILLERs; no case has more numbers than a rule text has bytes.
-fn compare(n: usize) {
+fn compare(rt: &(impl Files + Print), n: usize) -> io::Result<()> {
     let mut bytes = [0u8; paper::INPUT];
     let mut all = [0u16; paper::TEXT];
     let mut slice = [say::FILLER; 2 * paper::NODES];
-    let length = say::load(b'i', n, &mut bytes);
+    let length = say::load(rt, b'i', n, &mut bytes)?;
     let count = say::numbers(&bytes[..length], &mut all);
     let numbers = say::part(&all, 0, count);
     let room = at(numbers, 0) as usize;
     let sender = table_at(numbers, 1);
     let receiver = table_at(numbers, sender.rules + sender.count);
     if room <= slice.len() {
-        tell(numbers, sender, receiver, &mut slice[..room]);
+        tell(rt, numbers, sender, receiver, &mut slice[..room])?;
     }
+    Ok(())
 }
 
-fn main() {
+fn main(rt: HostRuntime) -> io::Result<()> {
     for n in 1..CASES + 1 {
-        compare(n);
+        compare(&rt, n)?;
     }
+    Ok(())
 }

@@ -1,7 +1,11 @@
 // Cases of model texts at the edges of their limits, each a file of data/: each is turned into a table, which is checked and written as a
 // rule text. The file stdout beside src/ has what each must be told, and docs/CASES.md what each case is.
+#![tactic(auto)]
+
 use model_table::Compiled;
 use rule_write::Writing;
+use std::io;
+use std::rt::Files;
 
 // So many cases there are, m01 .., and of these the slices of two are too short.
 const MODELS: usize = 65;
@@ -19,47 +23,54 @@ fn rows<'a>(rules: &'a [u16], count: usize) -> &'a [u16] {
 }
 
 // The check and the rule text of a table.
-fn show(symbols: u16, marks: &[u16], rules: &[u16]) {
+fn show(rt: &impl Print, symbols: u16, marks: &[u16], rules: &[u16]) -> io::Result<()> {
     let mut out = [0u8; paper::TEXT];
-    say::checked(table::check(symbols, marks, rules));
-    say::text(b"\n");
+    say::checked(rt, table::check(symbols, marks, rules))?;
+    say::text(rt, b"\n")?;
     match rule_write::write_text(symbols, marks, rules, &mut out) {
-        Writing::Refused(f) => say::refusal(f),
+        Writing::Refused(f) => say::refusal(rt, f),
         Writing::Wrote(n) => {
             if n <= out.len() {
-                say::text(&out[..n]);
+                say::text(rt, &out[..n])?;
             }
+            Ok(())
         }
     }
 }
 
 // Turns a text into a table in slices of FILLERs.
-fn compile_into(text: &[u8], marks: &mut [u16], rules: &mut [u16]) {
+fn compile_into(
+    rt: &impl Print,
+    text: &[u8],
+    marks: &mut [u16],
+    rules: &mut [u16],
+) -> io::Result<()> {
     match model_table::compile(text, marks, rules) {
-        Compiled::Refused(f) => say::refused(f, marks, rules),
+        Compiled::Refused(f) => say::refused(rt, f, marks, rules),
         Compiled::Table(symbols, states, count) => {
-            say::text(b"\ttable");
-            say::field(symbols as usize);
-            say::field(states);
-            say::field(count);
-            show(symbols, say::part(marks, 0, states), rows(rules, count));
+            say::text(rt, b"\ttable")?;
+            say::field(rt, symbols as usize)?;
+            say::field(rt, states)?;
+            say::field(rt, count)?;
+            show(rt, symbols, say::part(marks, 0, states), rows(rules, count))
         }
     }
 }
 
 // Case n; one has a slice for marks that is too short, one a slice for rules.
-fn compile(n: usize) {
+fn compile(rt: &(impl Files + Print), n: usize) -> io::Result<()> {
     let mut bytes = [0u8; say::CASE_BYTES];
     let mut marks = [say::FILLER; paper::STATES];
     let mut rules = [say::FILLER; paper::RULE_NUMBERS];
-    let length = say::load(b'm', n, &mut bytes);
+    let length = say::load(rt, b'm', n, &mut bytes)?;
     let m = say::less(paper::STATES, n, SHORT_MARKS);
     let r = say::less(paper::RULE_NUMBERS, n, SHORT_RULES);
-    compile_into(&bytes[..length], &mut marks[..m], &mut rules[..r]);
+    compile_into(rt, &bytes[..length], &mut marks[..m], &mut rules[..r])
 }
 
-fn main() {
+fn main(rt: HostRuntime) -> io::Result<()> {
     for n in 1..MODELS + 1 {
-        compile(n);
+        compile(&rt, n)?;
     }
+    Ok(())
 }

@@ -1,9 +1,12 @@
 // What the programs of cases share: reading a case's file and its numbers, writing what it is told, and parts of slices.
-ghost use Rattle.std.specs.Prelude.{◌≡◌, cond, ◌-◌, ◌≤◌, ◌<◌, eqb, length, take, drop};
+#![tactic(auto)]
 
-use libc::STDOUT_FILENO;
+ghost use Rattle.std.specs.Prelude.{◌≡◌, cond, ◌-◌, ◌≤◌, ◌<◌, eqb, length, take, drop, IfOk, OnErr};
+
 use lines::Number;
 use paper::{Checked, Refusal};
+use std::rt::Files;
+use std::{fs, io};
 
 // No case's file has more bytes than this, and so none has more numbers.
 pub const CASE_BYTES: usize = 16384;
@@ -11,32 +14,32 @@ pub const CASE_BYTES: usize = 16384;
 // The slices that a case may write are full of this number first.
 pub const FILLER: u16 = 9;
 
-pub fn text(bytes: &[u8]) {
-    io::write_all(STDOUT_FILENO, bytes);
+pub fn text(rt: &impl Print, bytes: &[u8]) -> io::Result<()> {
+    rt.write_all(bytes)
 }
 
-pub fn number(n: usize) {
-    io::print_decimal(STDOUT_FILENO, n as u64);
+pub fn number(rt: &impl Print, n: usize) -> io::Result<()> {
+    rt.print(n)
 }
 
 // A tab and a number.
-pub fn field(n: usize) {
-    text(b"\t");
-    number(n);
+pub fn field(rt: &impl Print, n: usize) -> io::Result<()> {
+    text(rt, b"\t")?;
+    number(rt, n)
 }
 
 // A refusal: number, side and place.
-pub fn refusal(f: Refusal) {
-    text(b"\trefused");
-    field(f.number as usize);
-    field(f.side as usize);
-    field(f.place);
+pub fn refusal(rt: &impl Print, f: Refusal) -> io::Result<()> {
+    text(rt, b"\trefused")?;
+    field(rt, f.number as usize)?;
+    field(rt, f.side as usize)?;
+    field(rt, f.place)
 }
 
-pub fn checked(c: Checked) {
+pub fn checked(rt: &impl Print, c: Checked) -> io::Result<()> {
     match c {
-        Checked::Passes => text(b"\tpasses"),
-        Checked::Refused(f) => refusal(f),
+        Checked::Passes => text(rt, b"\tpasses"),
+        Checked::Refused(f) => refusal(rt, f),
     }
 }
 
@@ -45,19 +48,28 @@ fn name(kind: u8, n: usize) -> [u8; 3] {
     [kind, (48 + n / 10 % 10) as u8, (48 + n % 10) as u8]
 }
 
-// Writes the name of a case, and reads its file into the slice: how many bytes, none where it can't be opened.
-pub fn load(kind: u8, n: usize, bytes: &mut [u8]) -> usize
+// Reads the file of a name into the slice: how many bytes, none where it can't be opened.
+fn read_file(rt: &impl Files, name: &[u8], bytes: &mut [u8]) -> usize
     ensures { (result ≤ length bytes.new) × (length bytes.new ≡ length bytes.old) }
 {
-    let path = name(kind, n);
-    text(&path);
-    let fd = os::open_read(&path);
-    if fd < 0 {
+    let Ok(path) = str::from_utf8(name) else {
         return 0;
+    };
+    match fs::open(rt, path) {
+        Ok(mut file) => intake::read_full(&mut file, bytes).count,
+        Err(_) => 0,
     }
-    let count = io::read_full(fd, bytes);
-    libc::close(fd);
-    count
+}
+
+// Writes the name of a case, and reads its file into the slice: how many bytes, none where it can't be opened. Where the name can't be
+// written, nothing is read.
+pub fn load(rt: &(impl Files + Print), kind: u8, n: usize, bytes: &mut [u8]) -> io::Result<usize>
+    ensures ok { IfOk result (λ r. (r ≤ length bytes.new) × (length bytes.new ≡ length bytes.old)) }
+    ensures err { OnErr result (bytes.new ≡ bytes.old) }
+{
+    let path = name(kind, n);
+    text(rt, &path)?;
+    Ok(read_file(rt, &path, bytes))
 }
 
 // The length n, or one less in case `short`.
@@ -90,29 +102,28 @@ pub fn part<'a>(all: &'a [u16], a: usize, n: usize) -> &'a [u16]
 
 // Is each number of the slice still FILLER?
 fn kept(numbers: &[u16]) -> bool {
-    let mut i = 0;
-    while i < numbers.len() {
-        if numbers[i] != FILLER {
+    for number in numbers {
+        if *number != FILLER {
             return false;
         }
-        i += 1;
     }
     true
 }
 
 // Says so where a slice of FILLERs has changed.
-pub fn changed(numbers: &[u16]) {
+pub fn changed(rt: &impl Print, numbers: &[u16]) -> io::Result<()> {
     if !kept(numbers) {
-        text(b"\tslice changed");
+        text(rt, b"\tslice changed")?;
     }
+    Ok(())
 }
 
 // A refusal, which must leave the slices of FILLERs as they were.
-pub fn refused(f: Refusal, marks: &[u16], rules: &[u16]) {
-    refusal(f);
-    changed(marks);
-    changed(rules);
-    text(b"\n");
+pub fn refused(rt: &impl Print, f: Refusal, marks: &[u16], rules: &[u16]) -> io::Result<()> {
+    refusal(rt, f)?;
+    changed(rt, marks)?;
+    changed(rt, rules)?;
+    text(rt, b"\n")
 }
 
 // How far the bytes are read, and how many numbers there are.
