@@ -1,7 +1,7 @@
 // Reading until a slice is full, from any reader: from a file, and from standard input, which may be a pipe that gives pieces.
 #![tactic(auto)]
 
-ghost use Rattle.std.specs.Prelude.{◌≡◌, ◌<◌, ◌≤◌, length, take, false};
+ghost use Rattle.std.specs.Prelude.{◌≡◌, ◌<◌, ◌≤◌, length, take, true, false};
 ghost use Rattle.std.specs.Io.KnownBytes.{Consumes, IsAtEnd};
 
 use std::io::Read;
@@ -14,11 +14,12 @@ pub struct Filled {
 }
 
 // Reads until the slice is full, the input ends or a read fails. What then stands at the start of the slice is what the reader gave, in
-// its order; and where no read failed, the slice is full or the reader at its end.
+// its order; where no read failed, the slice is full or the reader at its end, and a read can fail only while there is room.
 pub fn read_full<R: Read>(input: &mut R, bytes: &mut [u8]) -> Filled
     ensures bound { (result.count ≤ length bytes.new) × (length bytes.new ≡ length bytes.old) }
     ensures given { Consumes (R.remaining input.old) (R.remaining input.new) (take result.count bytes.new) }
     ensures whole { result.failed ≡ false → result.count < length bytes.new → IsAtEnd (R.remaining input.new) }
+    ensures short { result.failed ≡ true → result.count < length bytes.new }
 {
     let mut count = 0;
     while count < bytes.len() {

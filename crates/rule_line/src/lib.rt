@@ -1,5 +1,5 @@
 // One line of a rule text: taken apart, and written. The two are inverse to each other on every line that can be said, with numbers that
-// must be 0 being so and one of the three kinds (Sayable, line-written and line-known of proofs/LineLaws).
+// must be 0 being so and one of the three kinds (Sayable, line_written and line_known of proofs/LineLaws).
 #![tactic(auto)]
 
 ghost use Rattle.std.specs.Prelude.{◌≡◌};

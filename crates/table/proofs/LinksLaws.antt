@@ -11,7 +11,7 @@ use lib.Seq.{get_or-set_same, get_or-set_other}
 use Rattle.paper.specs.Limits.{Limits, at}
 use Rattle.table.specs.Rules.{Row}
 use Rattle.table.specs.Check.{TooLarge, HasRow}
-use Rattle.table.specs.Links.{list_of, OnList, front, later, Linked}
+use Rattle.table.specs.Links.{the_list_of, OnList, front, later, Linked}
 
 -- a size that is not refused has at most so many rules
 pub few_rules : (L : Limits) (symbols states rules : ℕ) → ¬ TooLarge L symbols states rules → rules ≤ L.rules
@@ -48,7 +48,7 @@ module _ (n : ℕ) (positive : 0 < n) (L : Limits) (xs : List ℕ) where
   }
 
   -- one rule more: row i, of list k, is put at its front
-  module _ (ls : List ℕ) (i k : ℕ) (own : list_of n (at xs (i * L.width + 1)) ≡ k) (room : i < L.rules) (g : Linked n L xs ls i) where
+  module _ (ls : List ℕ) (i k : ℕ) (own : the_list_of n (at xs (i * L.width + 1)) ≡ k) (room : i < L.rules) (g : Linked n L xs ls i) where
     below : k < n
     below = let z = mod-lt (at xs (i * L.width + 1)) positive in omega (arith, own)
 
@@ -98,7 +98,7 @@ module _ (n : ℕ) (positive : 0 < n) (L : Limits) (xs : List ℕ) where
           (λ d. let z = g.down j (omega arith) in omega (arith, link_kept j (omega arith)));
       listed = λ j h. by_cases (ℕ_discrete j i)
           (λ e. rw (e, own, front_new) front)
-          (λ d. old_listed j (list_of n (at xs (j * L.width + 1))) (mod-lt _ positive) (g.listed j (omega arith)));
+          (λ d. old_listed j (the_list_of n (at xs (j * L.width + 1))) (mod-lt _ positive) (g.listed j (omega arith)));
     }
 
 -- the walk down the list of the left number a: a row of the first i that has these numbers is still to come
@@ -107,9 +107,9 @@ pub record Walked (n w : ℕ) (xs ls : List ℕ) (i k a b q next : ℕ) : Type 0
   pub ahead : (j : ℕ) → j < i → Row w xs j k a b q → OnList n ls next j
 
 module _ (n : ℕ) (positive : 0 < n) (L : Limits) (xs ls : List ℕ) (i : ℕ) (g : Linked n L xs ls i) (k a b q : ℕ) where
-  pub walked_start : (f : ℕ) → f ≡ list_of n a → Walked n L.width xs ls i k a b q (at ls f)
+  pub walked_start : (f : ℕ) → f ≡ the_list_of n a → Walked n L.width xs ls i k a b q (at ls f)
   walked_start f e = rw e (record {
-    below = g.fronts (list_of n a) (mod-lt _ positive);
+    below = g.fronts (the_list_of n a) (mod-lt _ positive);
     ahead = λ j h r. rw r.left at (g.listed j h);
   })
 

@@ -8,8 +8,8 @@ abbrev pub lists : ℕ
 lists = 64
 
 -- of n lists, the list of a left number
-abbrev pub list_of : ℕ → ℕ → ℕ
-list_of n left = left % n
+abbrev pub the_list_of : ℕ → ℕ → ℕ
+the_list_of n left = left % n
 
 -- row j stands on the list that begins with the link h
 pub data OnList (n : ℕ) (ls : List ℕ) : ℕ → ℕ → Type 0 where
@@ -22,4 +22,4 @@ pub record Linked (n : ℕ) (L : Limits) (xs ls : List ℕ) (i : ℕ) : Type 0 w
   pub long : length ls ≡ n + L.rules
   pub fronts : (k : ℕ) → k < n → at ls k ≤ i
   pub down : (j : ℕ) → j < i → at ls (n + j) ≤ j
-  pub listed : (j : ℕ) → j < i → OnList n ls (at ls (list_of n (at xs (j * L.width + 1)))) j
+  pub listed : (j : ℕ) → j < i → OnList n ls (at ls (the_list_of n (at xs (j * L.width + 1)))) j

@@ -9,7 +9,7 @@ ghost use Rattle.paper.specs.First.{Clear, first};
 ghost use Rattle.table.specs.Rules.{Row};
 ghost use Rattle.table.specs.Check.{TooLarge, BadSort, BadMark, Misshapen, OutOfRange, HasRow};
 ghost use Rattle.table.specs.Check.{mark_fault, rule_fault_of, table_checked};
-ghost use Rattle.table.specs.Links.{lists, list_of, Linked};
+ghost use Rattle.table.specs.Links.{lists, the_list_of, Linked};
 
 use paper::{Checked, EPSILON_RULE, JOIN_RULE, LEAF_RULE, Refusal};
 
@@ -149,7 +149,7 @@ pub fn has_row(rules: &[u16], n: usize, kind: u16, left: u16, right: u16, to: u1
 
 // The list of the rules with this left number.
 fn list_of(left: u16) -> usize
-    ensures { result ≡ list_of lists left }
+    ensures { result ≡ the_list_of lists left }
 {
     left as usize % LISTS
 }

@@ -12,7 +12,7 @@ use Rattle.paper.proofs.ToldLaws.{check_unique}
 use Rattle.table.specs.Check.{table_checked}
 use Rattle.receiver.specs.Check.{ReceiverChecked}
 use Rattle.factorized.proofs.Exact.{check_answer_unique}
-use Rattle.accept.specs.Accept.{Judged, told as judgedTold}
+use Rattle.accept.specs.Accept.{Judged, told as judged_told}
 use Rattle.accept.specs.declared.Answer.{Answer as Judgement}
 use Rattle.accept.proofs.JudgeLaws.{accept_unique}
 use Rattle.inclusion.specs.Inclusion.{Answered, told}
@@ -38,8 +38,8 @@ module _ (L : Limits) (t : View) where
   view_receiver_unique = check_answer_unique L t.symbols t.marks.now t.rules.now
 
   -- two answers of `accept` are equal; those of `accept_of` by `accept_unique` itself
-  pub view_accept_unique : (ns : List ℕ) (a b : Judgement) → Judged L t.symbols t.marks.now t.rules.now ns (judgedTold a)
-      → Judged L t.symbols t.marks.now t.rules.now ns (judgedTold b) → a ≡ b
+  pub view_accept_unique : (ns : List ℕ) (a b : Judgement) → Judged L t.symbols t.marks.now t.rules.now ns (judged_told a)
+      → Judged L t.symbols t.marks.now t.rules.now ns (judged_told b) → a ≡ b
   view_accept_unique = accept_unique L t.symbols t.marks.now t.rules.now
 
 -- two answers of `include` are one, and so are the slices, unless both hand out a witness; those of `include_of` by `include_unique` itself

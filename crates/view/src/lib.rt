@@ -9,7 +9,7 @@ ghost use Rattle.paper.specs.Limits.{limits};
 ghost use Rattle.paper.specs.Told.{check_told};
 ghost use Rattle.table.specs.Check.{table_checked};
 ghost use Rattle.receiver.specs.Check.{ReceiverChecked};
-ghost use Rattle.accept.specs.Accept.{Judged, told as judgedTold};
+ghost use Rattle.accept.specs.Accept.{Judged, told as judged_told};
 ghost use Rattle.inclusion.specs.Inclusion.{lent, Answered, told};
 ghost use Rattle.view.specs.Shown.{view_of, lent_of};
 
@@ -67,7 +67,7 @@ pub fn check_receiver_of(symbols: u16, marks: &[u16], rules: &[u16]) -> Checked
 // Is the tree of these nodes accepted by the table? The table is checked first, then the tree.
 pub fn accept<'a, 'b, 'c>(t: View<'a, 'b>, nodes: &'c [u16]) -> accept::Answer
     ensures { Judged limits t.entry.symbols t.entry.marks.now t.entry.rules.now
-        nodes.now (judgedTold result) }
+        nodes.now (judged_told result) }
 {
     accept::accept(t.symbols, t.marks, t.rules, nodes)
 }
@@ -75,7 +75,7 @@ pub fn accept<'a, 'b, 'c>(t: View<'a, 'b>, nodes: &'c [u16]) -> accept::Answer
 // The same for plain slices.
 pub fn accept_of(symbols: u16, marks: &[u16], rules: &[u16], nodes: &[u16]) -> accept::Answer
     ensures { Judged limits symbols marks.now rules.now nodes.now
-        (judgedTold result) }
+        (judged_told result) }
 {
     accept(new(symbols, marks, rules), nodes)
 }
