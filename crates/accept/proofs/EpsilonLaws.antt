@@ -60,10 +60,6 @@ module _ (b w : ℕ) (xs : List ℕ) (i : ℕ) where
         (λ d. rw (y.stepped.same (omega arith)) (x.closed (omega arith) j (omega arith)));
   }
 
-  -- the same rules, told in two ways
-  pub passed_as : {K K' : ℕ → Type 0} {s t : List ℕ} {r : ℕ} → ((k : ℕ) → K' k → K k) → Passed b w xs K s i t r → Passed b w xs K' s i t r
-  passed_as from x = record { stepped = x.stepped; closed = λ e k h. x.closed e k (from k h) }
-
   -- a set to which no rule adds anything has all that ε steps reach
   pub closed_of : {s t u : List ℕ} {m n : ℕ} → Stepped b (RulesOf w xs) s i t m → Passed b w xs (λ j. j * w + w ≤ length xs) t i u n → n ≡ 0
       → Closed b (RulesOf w xs) s i u

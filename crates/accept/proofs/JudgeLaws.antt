@@ -6,8 +6,9 @@ use mathlib.Core.List.{List}
 use native.Mathlib.Decide.{ℕ_discrete, dec_lt, dec_le}
 use native.Mathlib.Omega.{arith}
 use lib.ListN.{length}
+use Rattle.std.specs.Prelude.{Bool, true, false, Ok, Err}
 use Rattle.paper.specs.Limits.{Limits, limits, at}
-use Rattle.paper.specs.Told.{Told, passes}
+use Rattle.paper.specs.Told.{Told, Tells, passes}
 use Rattle.paper.proofs.ToldLaws.{refused_not_passes, refusal_unique}
 use Rattle.tree.specs.Nodes.{tree_checked}
 use Rattle.tree.specs.Nodes as tree
@@ -17,9 +18,7 @@ use Rattle.table.specs.Check as table
 use Rattle.table.proofs.Range.{states_few, third_zero, to_below, from_below, right_below}
 use Rattle.table.proofs.Exact as table-exact
 use Rattle.accept.specs.Work.{StatesBelow, Earlier, Judgeable}
-use Rattle.accept.specs.Accept.{Judged, bad_table, bad_tree, is_accepted, is_rejected, told}
-use Rattle.accept.specs.declared.Answer.{Answer}
-use Rattle.accept.specs.declared.Answer.TheVariants.{Accepted, Rejected, Refused}
+use Rattle.accept.specs.Accept.{AcceptsNodes, Judged, bad_table, bad_tree, is_accepted, is_rejected, Answer, told}
 
 -- what a sound table and a sound tree say of their numbers
 module _ (L : Limits) (symbols : ℕ) where
@@ -93,17 +92,23 @@ module _ {L : Limits} {symbols : ℕ} {ms xs ns : List ℕ} where
 
 -- the answer is the only one that tells what is told
 pub told_unique : (a b : Answer) → told a ≡ told b → a ≡ b
-told_unique Accepted Accepted e = refl
-told_unique Accepted Rejected e = let z : ◌≡◌ {A = ℕ} 0 1 = cc in absurd (omega arith)
-told_unique Accepted (Refused s) e = let z : ◌≡◌ {A = ℕ} 0 1 = cc in absurd (omega arith)
-told_unique Rejected Accepted e = let z : ◌≡◌ {A = ℕ} 0 1 = cc in absurd (omega arith)
-told_unique Rejected Rejected e = refl
-told_unique Rejected (Refused s) e = let z : ◌≡◌ {A = ℕ} 0 1 = cc in absurd (omega arith)
-told_unique (Refused r) Accepted e = let z : ◌≡◌ {A = ℕ} 0 1 = cc in absurd (omega arith)
-told_unique (Refused r) Rejected e = let z : ◌≡◌ {A = ℕ} 0 1 = cc in absurd (omega arith)
-told_unique (Refused r) (Refused s) e = ap Refused (refusal_unique r s e)
+told_unique (Ok true) (Ok true) e = refl
+told_unique (Ok true) (Ok false) e = cc
+told_unique (Ok true) (Err s) e = cc
+told_unique (Ok false) (Ok true) e = cc
+told_unique (Ok false) (Ok false) e = refl
+told_unique (Ok false) (Err s) e = cc
+told_unique (Err r) (Ok true) e = cc
+told_unique (Err r) (Ok false) e = cc
+told_unique (Err r) (Err s) e = ap Err (refusal_unique r s e)
 
 -- two answers that the contract of `accept` allows are equal
 pub accept_unique : (L : Limits) (symbols : ℕ) (ms xs ns : List ℕ) (a b : Answer)
     → Judged L symbols ms xs ns (told a) → Judged L symbols ms xs ns (told b) → a ≡ b
 accept_unique L symbols ms xs ns a b x y = told_unique a b (judged_unique x y)
+
+-- what a test of acceptance tells, where nothing is refused
+pub judged_told : {L : Limits} {symbols : ℕ} {ms xs ns : List ℕ} (b : Bool) → table_checked L symbols ms xs ≡ passes
+    → tree_checked L symbols ns ≡ passes → Tells b (AcceptsNodes L ms xs ns) → Judged L symbols ms xs ns (told (Ok b))
+judged_told true t u a = is_accepted t u (a.yes refl)
+judged_told false t u a = is_rejected t u (a.no refl)

@@ -13,7 +13,7 @@ use Rattle.paper.specs.Told.{Tells}
 use Rattle.paper.proofs.TellsLaws.{tells_eq}
 use Rattle.bits.specs.Bits.{word, bit_at, Made}
 use Rattle.bits.proofs.Sets.{bit_two}
-use Rattle.accept.specs.Work.{state, In, missing, Room, Ready, Added, Grown}
+use Rattle.accept.specs.Work.{state, In, missing, Room, Added, Grown}
 
 -- a test of two numbers tells whether they are equal
 pub eqb_tells : (x y : ℕ) → Tells (eqb x y) (x ≡ y)
@@ -76,9 +76,6 @@ module _ (b : ℕ) where
 -- the work memory keeps its room
 pub room_grown : {b : ℕ} {s t : List ℕ} {i : ℕ} → Grown b s i t → Room s i → Room t i
 room_grown g r = record { long = g.long ∙ r.long; inside = r.inside }
-
-pub ready_grown : {b : ℕ} {ns s t : List ℕ} {i : ℕ} → Grown b s i t → Ready ns s i → Ready ns t i
-ready_grown g r = record { room = room_grown g r.room; node = r.node; earlier = r.earlier }
 
 -- how many numbers are missing, where none or one more is there
 pub missing_le : (f : ℕ → ℕ) (n : ℕ) → missing f n ≤ n

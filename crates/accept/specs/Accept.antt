@@ -1,13 +1,12 @@
 -- Acceptance of a tree by a table: what the answer tells, on every table and every node list.
-use Rattle.std.specs.Prelude.{ℕ, ◌≡◌, List}
+use Rattle.std.specs.Prelude.{ℕ, ◌≡◌, Bool, true, false, List, Result, Ok, Err}
 use Rattle.paper.specs.Limits.{Limits}
 use Rattle.paper.specs.Told.{Told, refused, passes, accepted, rejected, refusal}
+use Rattle.paper.specs.declared.Refusal.{Refusal}
 use Rattle.tree.specs.Tree.{tree_of}
 use Rattle.tree.specs.Nodes.{tree_checked}
 use Rattle.table.specs.Rules.{RulesOf, Accepts}
 use Rattle.table.specs.Check.{table_checked}
-use Rattle.accept.specs.declared.Answer.{Answer}
-use Rattle.accept.specs.declared.Answer.TheVariants.{Accepted, Rejected, Refused}
 
 -- the table accepts the tree of the node list
 abbrev pub AcceptsNodes : Limits → List ℕ → List ℕ → List ℕ → Type 0
@@ -23,8 +22,11 @@ pub data Judged (L : Limits) (symbols : ℕ) (ms xs ns : List ℕ) : Told → Ty
   is_rejected : table_checked L symbols ms xs ≡ passes → tree_checked L symbols ns ≡ passes
       → ¬ AcceptsNodes L ms xs ns → Judged L symbols ms xs ns rejected
 
--- what the answer tells
+-- what is answered, and what that tells
+abbrev pub Answer : Type 0
+Answer = Result Bool Refusal
+
 abbrev pub told : Answer → Told
-told Accepted = accepted
-told Rejected = rejected
-told (Refused r) = refusal r
+told (Ok true) = accepted
+told (Ok false) = rejected
+told (Err r) = refusal r

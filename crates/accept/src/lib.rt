@@ -10,19 +10,12 @@ ghost use Rattle.accept.specs.Work.{span, In, Room, Ready, Usable, StatesBelow, 
 ghost use Rattle.accept.specs.Work.{PassedRow, PassedAll, ClosedAll, Going, Evaluated, IsFinal, HasFinal, Judgeable};
 ghost use Rattle.accept.specs.Accept.{AcceptsNodes, Judged, told};
 
-use paper::{Checked, Refusal};
+use paper::Refusal;
 
 // So many words has the set of a node, one bit a state, and so many bits.
 const WORDS: usize = 4;
 
 const SPAN: usize = WORDS * bits::WORD;
-
-#[derive(Drop)]
-pub enum Answer {
-    Accepted,
-    Rejected,
-    Refused(Refusal),
-}
 
 // Is state q in the set of node i?
 fn has(work: &[u16], i: usize, q: u16) -> bool
@@ -79,15 +72,13 @@ fn gather(rules: &[u16], nodes: &[u16], i: usize, work: &mut [u16])
     requires { StatesBelow limits.width rules.now span × Ready nodes.now work.old i }
     ensures { GatherAll rules.now nodes.now i work.old work.new }
 {
-    let n = rules.len() / paper::WIDTH;
-    let mut k = 0;
-    while k < n {
+    for k in 0..rules.len() / paper::WIDTH {
         gather_row(rules, k, nodes, i, work);
-        k += 1;
     }
 }
 
 // Adds the target of rule k to the set of node i, if it is an ε rule from a state of the set. Tells how many are new.
+// Kept: factorized has this, step_all and close on flags in a slice; a trait for those and a node's bits, with its laws, is longer.
 fn step_row(rules: &[u16], k: usize, work: &mut [u16], i: usize) -> usize
     requires { Usable limits.width rules.now span k × Room work.old i }
     ensures { PassedRow rules.now k work.old i work.new result }
@@ -111,12 +102,9 @@ fn step_all(rules: &[u16], work: &mut [u16], i: usize) -> usize
     requires { StatesBelow limits.width rules.now span × Room work.old i }
     ensures { PassedAll rules.now work.old i work.new result }
 {
-    let n = rules.len() / paper::WIDTH;
     let mut new = 0;
-    let mut k = 0;
-    while k < n {
+    for k in 0..rules.len() / paper::WIDTH {
         new += step_row(rules, k, work, i);
-        k += 1;
     }
     new
 }
@@ -148,11 +136,8 @@ fn evaluate(rules: &[u16], nodes: &[u16], work: &mut [u16])
     requires { Going rules.now nodes.now work.old 0 }
     ensures { Evaluated rules.now nodes.now work.new }
 {
-    let n = nodes.len() / 2;
-    let mut i = 0;
-    while i < n {
+    for i in 0..nodes.len() / 2 {
         settle(rules, nodes, i, work);
-        i += 1;
     }
 }
 
@@ -172,12 +157,10 @@ fn has_final(marks: &[u16], work: &[u16], i: usize) -> bool
     requires { (length marks.now ≤ span) × (i < limits.nodes) }
     ensures { Tells result (HasFinal span marks.now work.now i) }
 {
-    let mut q = 0;
-    while q < marks.len() {
+    for q in 0..marks.len() {
         if is_final(marks, work, i, q) {
             return true;
         }
-        q += 1;
     }
     false
 }
@@ -193,17 +176,10 @@ fn accepts(marks: &[u16], rules: &[u16], nodes: &[u16]) -> bool
 }
 
 // Is the tree accepted by the table? The table is checked first, then the tree.
-pub fn accept(symbols: u16, marks: &[u16], rules: &[u16], nodes: &[u16]) -> Answer
+pub fn accept(symbols: u16, marks: &[u16], rules: &[u16], nodes: &[u16]) -> Result<bool, Refusal>
     ensures { Judged limits symbols marks.now rules.now nodes.now (told result) }
 {
-    if let Checked::Refused(refusal) = table::check(symbols, marks, rules) {
-        return Answer::Refused(refusal);
-    }
-    if let Checked::Refused(refusal) = tree::check(symbols, nodes) {
-        return Answer::Refused(refusal);
-    }
-    if accepts(marks, rules, nodes) {
-        return Answer::Accepted;
-    }
-    Answer::Rejected
+    table::check(symbols, marks, rules)?;
+    tree::check(symbols, nodes)?;
+    Ok(accepts(marks, rules, nodes))
 }

@@ -12,8 +12,8 @@ use Rattle.lines.specs.Lines.{lf}
 use Rattle.tree.specs.Tree.{leaf_mark}
 use Rattle.put.specs.Put.{Fit, Wrote}
 use Rattle.put.proofs.PutLaws.{put_length, fit_then}
-use Rattle.answers.specs.Lines.{refused_word, witness_word, letter_a, letter_j, refused_line_of, witness_line, node_line}
-use Rattle.answers.proofs.Sizes.{refused_room, witness_room, leaf_room}
+use Rattle.answers.specs.Lines.{refused_word, letter_a, letter_j, refused_line_of, node_line}
+use Rattle.answers.proofs.Sizes.{refused_room, word_room}
 
 -- the line bs stands at the front of the array ls, and ends at e
 pub record Made (bs : List ℕ) (e : ℕ) (ls : List ℕ) : Type 0 where
@@ -38,14 +38,9 @@ wrote_made m w = rw m.front at w
 
 -- the pieces of each line, put one behind the other into an array that has room
 module _ {l l₁ l₂ ls : List ℕ} {e₁ e₂ e : ℕ} where
-  pub witness_made : (n : ℕ) → 80 ≤ length l → Fit l 0 witness_word e₁ l₁ → Fit l₁ e₁ (entry n) e₂ l₂ → Fit l₂ e₂ (lf ∷ []) e ls
-      → Made (witness_line n) e ls
-  unfolding witness_line
-  witness_made n h f g k = made (omega (arith, witness_room n)) (fit_then f (fit_then g k))
-
-  pub leaf_made : (x : ℕ) → 80 ≤ length l → Fit l 0 (letter_a ∷ []) e₁ l₁ → Fit l₁ e₁ (entry x) e₂ l₂ → Fit l₂ e₂ (lf ∷ []) e ls
-      → Made (letter_a ∷ (entry x ++ (lf ∷ []))) e ls
-  leaf_made x h f g k = made (omega (arith, leaf_room x)) (fit_then f (fit_then g k))
+  pub word_made : (word : List ℕ) (n : ℕ) → length word ≤ 40 → 80 ≤ length l → Fit l 0 word e₁ l₁ → Fit l₁ e₁ (entry n) e₂ l₂
+      → Fit l₂ e₂ (lf ∷ []) e ls → Made (word ++ (entry n ++ (lf ∷ []))) e ls
+  word_made word n w h f g k = made (omega (arith, word_room word n w)) (fit_then f (fit_then g k))
 
   pub refused_made : (side number place : ℕ) {e₃ e₄ : ℕ} {l₃ l₄ : List ℕ} → 80 ≤ length l → Fit l 0 refused_word e₁ l₁
       → Fit l₁ e₁ (entry side) e₂ l₂ → Fit l₂ e₂ (entry number) e₃ l₃ → Fit l₃ e₃ (entry place) e₄ l₄ → Fit l₄ e₄ (lf ∷ []) e ls

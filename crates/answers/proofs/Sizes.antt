@@ -47,8 +47,5 @@ refused_room side number place =
     let c = length_field place (lf ∷ []) in
     omega (arith, a, b, c, decimal_room side, decimal_room number, decimal_room place)
 
-pub witness_room : (n : ℕ) → length (witness_line n) ≤ 80
-witness_room n = omega (arith, witness_size n, decimal_room n)
-
-pub leaf_room : (x : ℕ) → length (letter_a ∷ (entry x ++ (lf ∷ []))) ≤ 80
-leaf_room x = omega (arith, leaf_size x, decimal_room x)
+pub word_room : (word : List ℕ) (n : ℕ) → length word ≤ 40 → length (word ++ (entry n ++ (lf ∷ []))) ≤ 80
+word_room word n h = omega (arith, length-append word (entry n ++ (lf ∷ [])), length_field n (lf ∷ []), decimal_room n)

@@ -1,12 +1,6 @@
 // A table and a tree in numbers: the symbols, how many marks, the marks, how many rule numbers, these, and the nodes.
-use accept::Answer;
 use std::io;
 use std::rt::Files;
-
-// Number a of the slice, or 0.
-fn at(all: &[u16], a: usize) -> u16 {
-    if a < all.len() { all[a] } else { 0 }
-}
 
 // Tells what the checks and the acceptance say of a table and a tree.
 fn tell(
@@ -19,9 +13,9 @@ fn tell(
     say::checked(rt, table::check(symbols, marks, rules))?;
     say::checked(rt, tree::check(symbols, nodes))?;
     match accept::accept(symbols, marks, rules, nodes) {
-        Answer::Accepted => say::text(rt, b"\taccepted\n"),
-        Answer::Rejected => say::text(rt, b"\trejected\n"),
-        Answer::Refused(f) => {
+        Ok(true) => say::text(rt, b"\taccepted\n"),
+        Ok(false) => say::text(rt, b"\trejected\n"),
+        Err(f) => {
             say::refusal(rt, f)?;
             say::text(rt, b"\n")
         }
@@ -29,11 +23,11 @@ fn tell(
 }
 
 fn judge_numbers(rt: &impl Print, all: &[u16]) -> io::Result<()> {
-    let m = at(all, 1) as usize;
-    let r = at(all, 2 + m) as usize;
+    let m = say::at(all, 1) as usize;
+    let r = say::at(all, 2 + m) as usize;
     tell(
         rt,
-        at(all, 0),
+        say::at(all, 0),
         say::part(all, 2, m),
         say::part(all, 3 + m, r),
         say::part(all, 3 + m + r, all.len()),

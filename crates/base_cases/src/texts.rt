@@ -1,6 +1,4 @@
 // Rule texts: read into slices, written back, and the faulty line of two.
-use rule_read::Reading;
-use rule_write::Writing;
 use std::io;
 use std::rt::Files;
 
@@ -19,8 +17,8 @@ fn write_back(
 ) -> io::Result<()> {
     let mut out = [0u8; paper::TEXT];
     match rule_write::write_text(symbols, marks, rules, &mut out) {
-        Writing::Refused(f) => say::refusal(rt, f)?,
-        Writing::Wrote(n) => {
+        Err(f) => say::refusal(rt, f)?,
+        Ok(n) => {
             say::field(rt, n)?;
             if n <= out.len() {
                 if text != &out[..n] {
@@ -35,22 +33,18 @@ fn write_back(
 // Reads a text into slices of FILLERs.
 fn read_into(rt: &impl Print, text: &[u8], marks: &mut [u16], rules: &mut [u16]) -> io::Result<()> {
     match rule_read::read_text(text, marks, rules) {
-        Reading::Refused(f) => say::refused(rt, f, marks, rules),
-        Reading::Read(symbols, states, count) => {
+        Err(f) => say::refused(rt, f, marks, rules),
+        Ok(t) => {
             say::text(rt, b"\ttable")?;
-            say::field(rt, symbols as usize)?;
-            say::field(rt, states)?;
-            say::field(rt, count)?;
-            if states <= marks.len() {
-                if count <= rules.len() / paper::WIDTH {
-                    write_back(
-                        rt,
-                        text,
-                        symbols,
-                        &marks[..states],
-                        &rules[..count * paper::WIDTH],
-                    )?;
-                }
+            say::sizes(rt, t)?;
+            if t.states <= marks.len() && t.rules <= rules.len() / paper::WIDTH {
+                write_back(
+                    rt,
+                    text,
+                    t.symbols,
+                    &marks[..t.states],
+                    &rules[..t.rules * paper::WIDTH],
+                )?;
             }
             Ok(())
         }
@@ -74,8 +68,8 @@ pub(crate) fn short_text(rt: &impl Print) -> io::Result<()> {
     let rules = [0u16; paper::WIDTH];
     let mut out = [0u8; paper::TEXT - 1];
     match rule_write::write_text(1, &marks, &rules, &mut out) {
-        Writing::Refused(f) => say::refusal(rt, f)?,
-        Writing::Wrote(n) => say::field(rt, n)?,
+        Err(f) => say::refusal(rt, f)?,
+        Ok(n) => say::field(rt, n)?,
     }
     say::text(rt, b"\n")
 }

@@ -4,8 +4,8 @@
 
 ghost use Rattle.std.specs.Prelude.{◌≡◌, length};
 
-use accept::Answer;
-use rule_read::Reading;
+use paper::{Refusal, RuleRow};
+use put::Out;
 use std::io;
 
 // Prints a text.
@@ -14,33 +14,27 @@ fn say(rt: &impl Print, text: &[u8]) -> io::Result<()> {
 }
 
 // Puts rule i, where the slice has room for it.
-fn put_rule(rules: &mut [u16], i: usize, kind: u16, left: u16, right: u16, to: u16)
+fn put_rule(rules: &mut [u16], i: usize, rule: RuleRow)
     ensures { length rules.new ≡ length rules.old }
 {
     let count = rules.len() / paper::WIDTH;
     if i < count {
-        rows::put_rule(rules, i * paper::WIDTH, kind, left, right, to);
+        rows::put_rule(rules, i * paper::WIDTH, rule);
     }
 }
 
 // The ε rules of the star: its initial state 23 and its places 24 to 46 end words of element 0.
 fn star_ends(rules: &mut [u16]) {
     for q in 23..47 {
-        put_rule(rules, q - 22, paper::EPSILON_RULE, q as u16, 0, 0);
+        put_rule(rules, q - 22, RuleRow::epsilon(q as u16, 0));
     }
 }
 
 // The join rules of the star: from each of those states with element a to the place of a.
 fn star_joins(rules: &mut [u16]) {
     for j in 0..552 {
-        put_rule(
-            rules,
-            25 + j,
-            paper::JOIN_RULE,
-            (23 + j / 23) as u16,
-            (j % 23) as u16,
-            (24 + j % 23) as u16,
-        );
+        let rule = RuleRow::join((23 + j / 23) as u16, (j % 23) as u16, (24 + j % 23) as u16);
+        put_rule(rules, 25 + j, rule);
     }
 }
 
@@ -56,11 +50,11 @@ fn chain(nodes: &mut [u16]) {
 }
 
 // Prints what is answered.
-fn tell(rt: &impl Print, a: Answer) -> io::Result<()> {
+fn tell(rt: &impl Print, a: Result<bool, Refusal>) -> io::Result<()> {
     match a {
-        Answer::Accepted => say(rt, b"accepted\n"),
-        Answer::Rejected => say(rt, b"rejected\n"),
-        Answer::Refused(_) => say(rt, b"refused\n"),
+        Ok(true) => say(rt, b"accepted\n"),
+        Ok(false) => say(rt, b"rejected\n"),
+        Err(_) => say(rt, b"refused\n"),
     }
 }
 
@@ -73,7 +67,7 @@ fn star(rt: &impl Print) -> io::Result<()> {
         marks[q] = 4;
     }
     marks[0] = 5;
-    put_rule(&mut rules, 0, paper::LEAF_RULE, 0, 0, 23);
+    put_rule(&mut rules, 0, RuleRow::leaf(0, 23));
     star_ends(&mut rules);
     star_joins(&mut rules);
     chain(&mut nodes);
@@ -84,28 +78,15 @@ fn star(rt: &impl Print) -> io::Result<()> {
 // The ε rules of the slowest table: its states in a chain, the last rule first, so that each pass adds one state.
 fn slow_steps(rules: &mut [u16]) {
     for i in 0..59 {
-        put_rule(
-            rules,
-            i,
-            paper::EPSILON_RULE,
-            (58 - i) as u16,
-            0,
-            (59 - i) as u16,
-        );
+        put_rule(rules, i, RuleRow::epsilon((58 - i) as u16, (59 - i) as u16));
     }
 }
 
 // The join rules of the slowest table, which fit nothing.
 fn slow_joins(rules: &mut [u16]) {
     for j in 0..540 {
-        put_rule(
-            rules,
-            60 + j,
-            paper::JOIN_RULE,
-            (1 + j / 59) as u16,
-            (1 + j % 59) as u16,
-            59,
-        );
+        let rule = RuleRow::join((1 + j / 59) as u16, (1 + j % 59) as u16, 59);
+        put_rule(rules, 60 + j, rule);
     }
 }
 
@@ -116,7 +97,7 @@ fn slowest(rt: &impl Print) -> io::Result<()> {
     let mut nodes = [paper::LEAF; 2 * paper::NODES];
     marks[59] = 7;
     slow_steps(&mut rules);
-    put_rule(&mut rules, 59, paper::LEAF_RULE, 0, 0, 0);
+    put_rule(&mut rules, 59, RuleRow::leaf(0, 0));
     slow_joins(&mut rules);
     for i in 0..paper::NODES {
         nodes[2 * i] = 0;
@@ -124,37 +105,29 @@ fn slowest(rt: &impl Print) -> io::Result<()> {
     tell(rt, accept::accept(1, &marks, &rules, &nodes))
 }
 
-// The state lines of the fullest text, written from `from` on.
-fn write_states(out: &mut [u8], from: usize) -> usize {
-    let mut at = from;
+// Writes the state lines of the fullest text.
+fn write_states(out: &mut Out) {
     for q in 0..paper::STATES {
-        at = put::write_letters(out, at, b'S', 3, q as u16, 3, 1);
+        out.write_letters(b'S', 3, q as u16, 3, 1);
     }
-    at
 }
 
-// The rule lines of the fullest text, of three numbers with two digits each, written from `from` on.
-fn write_rules(out: &mut [u8], from: usize) -> usize {
-    let mut at = from;
+// Writes the rule lines of the fullest text, of three numbers with two digits each.
+fn write_rules(out: &mut Out) {
     for i in 0..paper::RULES {
-        at = put::write_letters(
-            out,
-            at,
-            b'P',
-            3,
-            (10 + i / 50) as u16,
-            (10 + i % 50) as u16,
-            10,
-        );
+        let left = (10 + i / 50) as u16;
+        let right = (10 + i % 50) as u16;
+        out.write_letters(b'P', 3, left, right, 10);
     }
-    at
 }
 
 // The fullest text: 40 symbols, 60 states, 600 rules.
 fn write_text(out: &mut [u8]) -> usize {
-    let head = put::write_letters(out, 0, b'T', 2, paper::SYMBOLS, paper::STATES as u16, 0);
-    let states = write_states(out, head);
-    write_rules(out, states)
+    let mut out = Out { bytes: out, at: 0 };
+    out.write_letters(b'T', 2, paper::SYMBOLS, paper::STATES as u16, 0);
+    write_states(&mut out);
+    write_rules(&mut out);
+    out.at
 }
 
 // The fullest text, written and read.
@@ -167,8 +140,8 @@ fn fullest(rt: &impl Print) -> io::Result<()> {
         return Ok(());
     }
     match rule_read::read_text(&text[..n], &mut marks, &mut rules) {
-        Reading::Read(_, _, _) => say(rt, b"read\n"),
-        Reading::Refused(_) => say(rt, b"refused\n"),
+        Ok(_) => say(rt, b"read\n"),
+        Err(_) => say(rt, b"refused\n"),
     }
 }
 

@@ -1,12 +1,15 @@
 -- One bit of a list of words, and that a list of words is known by its bits. Assumes nothing.
 use Prim.Native.Nat.{ℕ, zero, suc, ◌+◌, ◌-◌, ◌*◌, ◌/◌, ◌%◌, ◌^◌, ◌≤◌, ◌<◌}
 use mathlib.Core.Path.{◌≡◌, refl, sym, ◌∙◌}
+use mathlib.Core.Bool.{Bool, true, false, beq}
 use mathlib.Core.List.{List}
 use mathlib.Core.Logic.{◌≢◌, by_cases}
 use native.Mathlib.Decide.{ℕ_discrete, dec_lt}
 use native.Mathlib.Omega.{arith}
+use borrow.Author.Tests.{eqb-true, eqb-false}
 use lib.ListN.{length, get_or, set, length-set, replicate, get_or-eq_default}
 use lib.Seq.{get_or-set_same, get_or-set_other, ext_get_or}
+use Rattle.std.specs.Prelude.{eqb, cond}
 use Rattle.bits.specs.Bits.{word, bit_of, bit_at, Made}
 use Rattle.bits.proofs.Words.{WordMade, bit_shifted, one_shifted, bit_zero, bit_small, sum_made, sum_fits, less_made, less_fits, word_unique}
 
@@ -51,7 +54,20 @@ module _ (l : List ℕ) (i v w : ℕ) (h : i / word < length l) (m : WordMade (g
   pub made_set : Made l i v (set l (i / word) w)
   made_set = record { long = length-set l (i / word) w; here = λ _. here; others = others; outside = λ o. absurd (omega arith) }
 
--- what the code stores, a word with the shifted 1 added or taken away, where the test of its bit failed
+-- what the answer of `get` says of a bit that should be 1, or 0
+pub made_already : (l : List ℕ) (i : ℕ) (r v : Bool) → r ≡ eqb (bit_at l i) 1 → beq r v ≡ true → Made l i (cond v 1 0) l
+made_already l i true true e q = made_same l i 1 (eqb-true (bit_at l i) 1 (sym e))
+made_already l i true false e q = cc
+made_already l i false true e q = cc
+made_already l i false false e q = let n = eqb-false (bit_at l i) 1 (sym e) in made_same l i 0 (omega (arith, bit_two l i))
+
+pub bit_differs : (l : List ℕ) (i : ℕ) (r v : Bool) → r ≡ eqb (bit_at l i) 1 → beq r v ≡ false → bit_at l i ≢ cond v 1 0
+bit_differs l i true true e q x = cc
+bit_differs l i true false e q x = cc
+bit_differs l i false true e q x = cc
+bit_differs l i false false e q x = cc
+
+-- what the code stores, a word with the shifted 1 added or taken away, where its bit is another one
 module _ (l : List ℕ) (i : ℕ) (h : i / word < length l) where
   abbrev held : ℕ
   held = get_or l (i / word) 0
@@ -62,21 +78,20 @@ module _ (l : List ℕ) (i : ℕ) (h : i / word < length l) where
   shifted : bit ≡ 2 ^ (i % word)
   shifted = one_shifted (i % word) (omega arith)
 
-  bit_other : (v : ℕ) → held / 2 ^ (i % word) % 2 ≢ v → v < 2 → bit_of held (i % word) ≡ 1 - v
-  bit_other v n k =
-      let m : bit_of held (i % word) ≢ v = λ q. n (bit_shifted held (i % word) ∙ q) in
-      omega (arith, bit_small held (i % word))
+  bit_other : (v : ℕ) → bit_at l i ≢ v → v < 2 → bit_of held (i % word) ≡ 1 - v
+  unfolding bit_at
+  bit_other v n k = omega (arith, bit_small held (i % word))
 
-  pub put_made : held / 2 ^ (i % word) % 2 ≢ 1 → Made l i 1 (set l (i / word) (held + bit))
+  pub put_made : bit_at l i ≢ 1 → Made l i 1 (set l (i / word) (held + bit))
   put_made n = rw shifted (made_set l i 1 (held + 2 ^ (i % word)) h (sum_made held (i % word) (bit_other 1 n (omega arith))))
 
-  pub put_fits : held / 2 ^ (i % word) % 2 ≢ 1 → held < 2 ^ word → held + bit < 2 ^ word
+  pub put_fits : bit_at l i ≢ 1 → held < 2 ^ word → held + bit < 2 ^ word
   put_fits n b = rw shifted (sum_fits word held (i % word) (omega arith) b (bit_other 1 n (omega arith)))
 
-  pub clear_made : held / 2 ^ (i % word) % 2 ≢ 0 → Made l i 0 (set l (i / word) (held - bit))
+  pub clear_made : bit_at l i ≢ 0 → Made l i 0 (set l (i / word) (held - bit))
   clear_made n = rw shifted (made_set l i 0 (held - 2 ^ (i % word)) h (less_made held (i % word) (bit_other 0 n (omega arith))))
 
-  pub clear_fits : held / 2 ^ (i % word) % 2 ≢ 0 → bit ≤ held
+  pub clear_fits : bit_at l i ≢ 0 → bit ≤ held
   clear_fits n = rw shifted (less_fits held (i % word) (bit_other 0 n (omega arith)))
 
 -- bit k of word j is bit j * word + k of the list

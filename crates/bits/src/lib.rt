@@ -2,7 +2,7 @@
 // Each function takes every slice and every number: behind the slice's end nothing is in the set, and nothing is changed.
 #![tactic(auto)]
 
-ghost use Rattle.std.specs.Prelude.{◌≡◌, eqb};
+ghost use Rattle.std.specs.Prelude.{◌≡◌, eqb, cond};
 ghost use Rattle.bits.specs.Bits.{bit_at, Made};
 
 // So many bits has a word.
@@ -21,34 +21,35 @@ pub fn get(words: &[u16], i: usize) -> bool
     (w >> b) % 2 == 1
 }
 
-// Puts i into the set.
-pub fn put(words: &mut [u16], i: usize)
-    ensures { Made words.old i 1 words.new }
+// Puts i into the set if it shall be within, and else takes it out.
+fn make(words: &mut [u16], i: usize, within: bool)
+    ensures { Made words.old i (cond within 1 0) words.new }
 {
     let k = i / WORD;
     if words.len() <= k {
         return;
     }
-    let w = words[k];
-    let b = i % WORD;
-    if (w >> b) % 2 == 1 {
+    if get(words, i) == within {
         return;
     }
-    words[k] = w + (1 << b);
+    let b = i % WORD;
+    if within {
+        words[k] += 1 << b;
+        return;
+    }
+    words[k] -= 1 << b;
+}
+
+// Puts i into the set.
+pub fn put(words: &mut [u16], i: usize)
+    ensures { Made words.old i 1 words.new }
+{
+    make(words, i, true);
 }
 
 // Takes i out of the set.
 pub fn clear(words: &mut [u16], i: usize)
     ensures { Made words.old i 0 words.new }
 {
-    let k = i / WORD;
-    if words.len() <= k {
-        return;
-    }
-    let w = words[k];
-    let b = i % WORD;
-    if (w >> b) % 2 == 0 {
-        return;
-    }
-    words[k] = w - (1 << b);
+    make(words, i, false);
 }

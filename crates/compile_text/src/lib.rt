@@ -7,30 +7,29 @@ ghost use Rattle.rule_write.specs.Write.{told};
 ghost use Rattle.answers.specs.Written.{WritesText};
 ghost use Rattle.compile_text.specs.Answer.{compile_text_of};
 
-use model_table::Compiled;
-use paper::Refusal;
-use rule_write::Writing;
+use paper::{Fault, Refusal};
+use put::Out;
 
 // Writes the answer to a model text to the front of the slice, the rest unchanged; a slice that has no room for every rule text is
 // refused with 1 and unchanged.
-pub fn compile_text(text: &[u8], out: &mut [u8]) -> Writing
+pub fn compile_text(text: &[u8], out: &mut [u8]) -> Result<usize, Refusal>
     ensures { WritesText limits.text (compile_text_of limits text.now) out.old (told result)
         out.new }
 {
     if out.len() < paper::TEXT {
-        return Writing::Refused(Refusal {
-            number: paper::ROOM,
-            side: 0,
-            place: 0,
-        });
+        return Err(Refusal::at(Fault::Room, 0));
     }
     let mut marks = [0u16; paper::STATES];
     let mut rules = [0u16; paper::RULE_NUMBERS];
     match model_table::compile(text, &mut marks, &mut rules) {
-        Compiled::Refused(f) => Writing::Wrote(answers::write_refused(out, 0, f)),
-        Compiled::Table(symbols, states, count) => {
-            let end = count * paper::WIDTH;
-            rule_write::write_text(symbols, &marks[..states], &rules[..end], out)
+        Err(f) => {
+            let mut out = Out { bytes: out, at: 0 };
+            answers::write_refused(&mut out, f);
+            Ok(out.at)
+        }
+        Ok(sizes) => {
+            let end = sizes.rules * paper::WIDTH;
+            rule_write::write_text(sizes.symbols, &marks[..sizes.states], &rules[..end], out)
         }
     }
 }

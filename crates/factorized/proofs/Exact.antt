@@ -9,9 +9,8 @@ use native.Mathlib.Omega.{arith}
 use lib.ListN.{length, drop}
 use lib.Seq.{get_or-drop, ext_get_or}
 use Rattle.paper.specs.Limits.{Limits, at}
-use Rattle.paper.specs.Told.{Told, refused, passes, is_refusal, check_told}
+use Rattle.paper.specs.Told.{Told, refused, passes, is_refusal, Checked, check_told}
 use Rattle.paper.specs.First.{FirstWrong, NoneWrong}
-use Rattle.paper.specs.declared.Checked.{Checked}
 use Rattle.paper.proofs.ToldLaws.{refused_not_passes, refused_as, check_unique}
 use Rattle.table.specs.Rules.{RulesOf}
 use Rattle.table.specs.Check.{TableRefused, Sound}

@@ -2,7 +2,6 @@ pub mod RangeLaws
 pub mod SideLaws
 pub mod EpsilonLaws
 pub mod OneLaws
-pub mod CopyLaws
 pub mod StateLaws
 pub mod CheckLaws
 pub mod Exact

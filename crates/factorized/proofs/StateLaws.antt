@@ -1,5 +1,6 @@
 -- The numbers of one state, from the flags of the states that it reaches, and of one state more. Assumes nothing.
 use Prim.Native.Nat.{ℕ, ◌+◌, ◌*◌, ◌≤◌, ◌<◌}
+use mir.Val.{bool_byte}
 use mathlib.Core.Path.{◌≡◌, refl, sym, ◌∙◌}
 use mathlib.Core.Logic.{inl, inr, ⊎_elim, by_cases}
 use mathlib.Core.Bool.{Bool, true, false}
@@ -8,13 +9,15 @@ use native.Mathlib.Decide.{ℕ_discrete, dec_lt}
 use native.Mathlib.Omega.{arith}
 use lib.ListN.{length, set, length-set, replicate, length-replicate, get_or-eq_default}
 use lib.Seq.{get_or-set_same, get_or-set_other}
+use Rattle.std.specs.Prelude.{Option, None, unwrap_or}
 use Rattle.paper.specs.Limits.{Limits, at}
+use Rattle.paper.specs.Told.{Tells}
 use Rattle.paper.proofs.TellsLaws.{tells_yes, tells_no}
 use Rattle.bits.proofs.Sets.{zeros_at}
 use Rattle.table.specs.Rules.{Rule, RulesOf, Reach, left_sort, right_sort, Final}
 use Rattle.receiver.specs.Receiver.{TwoReached}
-use Rattle.receiver.specs.Numbers.{OneOf, Ends, numbers_each, numbers_size}
-use Rattle.factorized.specs.Work.{Stands, Flagged, Closed, Reached, StandsFlagged, Single, none, one, Two, TheOne, FinalFlagged, IsBit}
+use Rattle.receiver.specs.Numbers.{OneOf, Ends, numbers_each}
+use Rattle.factorized.specs.Work.{Stands, Flagged, Closed, Reached, StandsFlagged, Single, none, one, Two, FinalFlagged, IsBit}
 use Rattle.factorized.specs.Work.{NumbersAt, Numbered, Listed, AllNumbered}
 
 -- so many flags are there, that of p alone set
@@ -88,12 +91,12 @@ module _ (ns : List ℕ) (a l r e : ℕ) (room : a + numbers_each ≤ length ns)
 
 -- state p, where exactly what it reaches is flagged
 module _ (L : Limits) (ms xs : List ℕ) (p : ℕ) (fs : List ℕ) (reached : Reached (RulesOf L.width xs) p fs) where
-  one_of : {l : ℕ} (s : ℕ) → 1 ≤ s → Single (StandsFlagged ms fs s) (length ms) (length ms) l
-      → OneOf (RulesOf L.width xs) (length ms) (Stands ms s) p l
+  one_of : {found : Option ℕ} (s : ℕ) → 1 ≤ s → Single (StandsFlagged ms fs s) (length ms) found
+      → OneOf (RulesOf L.width xs) (length ms) (Stands ms s) p (unwrap_or found (length ms))
   one_of s h (none d) = inr (refl, λ q r x. d q (stands_below ms q s h x) ((reached.exact q).1 r, x))
-  one_of {l} s h (one i x d) = inl ((reached.exact l).0 x.0, x.1)
+  one_of s h (one {l} i x d) = inl ((reached.exact l).0 x.0, x.1)
 
-  not_two : {l : ℕ} (s : ℕ) → 1 ≤ s → Single (StandsFlagged ms fs s) (length ms) (length ms) l → ¬ TwoReached L xs (Stands ms s) p
+  not_two : {found : Option ℕ} (s : ℕ) → 1 ≤ s → Single (StandsFlagged ms fs s) (length ms) found → ¬ TwoReached L xs (Stands ms s) p
   not_two s h (none d) (q, r, n, (x, (y, (a, b)))) = d q (stands_below ms q s h x) ((reached.exact q).1 a, x)
   not_two s h (one i z d) (q, r, n, (x, (y, (a, b)))) =
       n (d q (stands_below ms q s h x) ((reached.exact q).1 a, x) ∙ sym (d r (stands_below ms r s h y) ((reached.exact r).1 b, y)))
@@ -101,46 +104,51 @@ module _ (L : Limits) (ms xs : List ℕ) (p : ℕ) (fs : List ℕ) (reached : Re
   two_reached : (s : ℕ) → Two (StandsFlagged ms fs s) → TwoReached L xs (Stands ms s) p
   two_reached s (q, r, n, x, y) = (q, r, n, (x.1, (y.1, ((reached.exact q).0 x.0, (reached.exact r).0 y.0))))
 
-  ends_of : {e : ℕ} → IsBit (FinalFlagged ms fs) e → IsBit (Ends (RulesOf L.width xs) ms p) e
-  ends_of b = record {
-    most = b.most;
+  -- a test of it as a number, 1 or 0
+  ends_of : {e : Bool} → Tells e (FinalFlagged ms fs) → IsBit (Ends (RulesOf L.width xs) ms p) (bool_byte e)
+  ends_of {e = true} t = record {
+    most = omega arith;
+    says = (λ _. let (q, h, f, i) = t.yes refl in record { state = q; reached = (reached.exact q).0 f; final = i }, λ _. refl);
+  }
+  ends_of {e = false} t = record {
+    most = omega arith;
     says = (
-      (λ z. let (q, h, f, i) = b.says.0 z in record { state = q; reached = (reached.exact q).0 f; final = i }),
-      λ x. b.says.1 (x.state, final_below ms x.state x.final, (reached.exact x.state).1 x.reached, x.final),
+      (λ e. absurd (omega arith)),
+      λ x. absurd (t.no refl (x.state, final_below ms x.state x.final, (reached.exact x.state).1 x.reached, x.final)),
     );
   }
 
-  module _ (ns : List ℕ) (l : ℕ) (left : TheOne (StandsFlagged ms fs left_sort) (length ms) l) where
-    pub split_left : length ms < l → Numbered L ms xs p ns true ns
-    split_left h = record {
-      tells = tells_yes (inl (two_reached left_sort (left.two h)));
+  module _ (ns : List ℕ) where
+    pub split_left : Two (StandsFlagged ms fs left_sort) → Numbered L ms xs p ns true ns
+    split_left two = record {
+      tells = tells_yes (inl (two_reached left_sort two));
       long = refl;
       earlier = λ i h. refl;
-      numbers = λ t. let z : ◌≡◌ {A = ℕ} 0 1 = cc in absurd (omega arith);
+      numbers = λ t. cc;
     }
 
-    module _ (r : ℕ) (right : TheOne (StandsFlagged ms fs right_sort) (length ms) r) where
-      pub split_right : length ms < r → Numbered L ms xs p ns true ns
-      split_right h = record {
-        tells = tells_yes (inr (two_reached right_sort (right.two h)));
-        long = refl;
-        earlier = λ i h. refl;
-        numbers = λ t. let z : ◌≡◌ {A = ℕ} 0 1 = cc in absurd (omega arith);
-      }
+    pub split_right : Two (StandsFlagged ms fs right_sort) → Numbered L ms xs p ns true ns
+    split_right two = record {
+      tells = tells_yes (inr (two_reached right_sort two));
+      long = refl;
+      earlier = λ i h. refl;
+      numbers = λ t. cc;
+    }
 
-      -- neither side has two: the numbers are stored
-      pub numbered : (e : ℕ) → l ≤ length ms → r ≤ length ms → IsBit (FinalFlagged ms fs) e → numbers_each * p + numbers_each ≤ length ns
-          → Numbered L ms xs p ns false (stored ns (numbers_each * p) l r e)
-      numbered e h k b room = record {
-        tells = tells_no (⊎_elim (not_two left_sort (omega arith) (left.single h)) (not_two right_sort (omega arith) (right.single k)));
-        long = stored_long ns (numbers_each * p) l r e room;
-        earlier = stored_earlier ns (numbers_each * p) l r e room;
-        numbers = λ _. record {
-          left = rw (stored_first ns (numbers_each * p) l r e room) (one_of left_sort (omega arith) (left.single h));
-          right = rw (stored_second ns (numbers_each * p) l r e room) (one_of right_sort (omega arith) (right.single k));
-          ends = rw (stored_third ns (numbers_each * p) l r e room) (ends_of b);
-        };
-      }
+    -- neither side has two: the numbers are stored
+    pub numbered : {l r : Option ℕ} {e : Bool} → Single (StandsFlagged ms fs left_sort) (length ms) l
+        → Single (StandsFlagged ms fs right_sort) (length ms) r → Tells e (FinalFlagged ms fs) → numbers_each * p + numbers_each ≤ length ns
+        → Numbered L ms xs p ns false (stored ns (numbers_each * p) (unwrap_or l (length ms)) (unwrap_or r (length ms)) (bool_byte e))
+    numbered left right ends room = record {
+      tells = tells_no (⊎_elim (not_two left_sort (omega arith) left) (not_two right_sort (omega arith) right));
+      long = stored_long ns (numbers_each * p) _ _ _ room;
+      earlier = stored_earlier ns (numbers_each * p) _ _ _ room;
+      numbers = λ _. record {
+        left = rw (stored_first ns (numbers_each * p) _ _ _ room) (one_of left_sort (omega arith) left);
+        right = rw (stored_second ns (numbers_each * p) _ _ _ room) (one_of right_sort (omega arith) right);
+        ends = rw (stored_third ns (numbers_each * p) _ _ _ room) (ends_of ends);
+      };
+    }
 
 module _ (L : Limits) (ms xs : List ℕ) where
   -- the numbers of a state are known by the three numbers
@@ -152,9 +160,6 @@ module _ (L : Limits) (ms xs : List ℕ) where
     ends = rw (e 2 (omega arith)) n.ends;
   }
 
-  pub listed_none : (ns : List ℕ) → length ns ≡ numbers_size L.states → Listed L ms xs 0 ns
-  listed_none ns e = record { long = e; numbers = λ q h. absurd (omega arith); single = λ q h. absurd (omega arith) }
-
   pub listed_more : {p : ℕ} {ns os : List ℕ} {b : Bool} → Listed L ms xs p ns → Numbered L ms xs p ns b os → b ≡ false → Listed L ms xs (p + 1) os
   listed_more {p} {ns} {os} x y t = record {
     long = y.long ∙ x.long;
@@ -164,19 +169,11 @@ module _ (L : Limits) (ms xs : List ℕ) where
     single = λ q h. by_cases (ℕ_discrete q p) (λ e. rw e (y.tells.no t)) (λ d. x.single q (omega arith));
   }
 
-  pub all_split : {p : ℕ} {ns os : List ℕ} {b : Bool} → p ≤ length ms → Listed L ms xs p ns → Numbered L ms xs p ns b os → b ≡ true
-      → AllNumbered L ms xs p os
-  all_split h x y t = record {
-    found = record { most = omega arith; before = x.single; wrong = λ _. y.tells.yes t };
-    long = y.long ∙ x.long;
-    numbers = λ l. absurd (omega arith);
-  }
-
-  pub all_numbered : {p : ℕ} {ns : List ℕ} → p ≡ length ms + 1 → Listed L ms xs p ns → AllNumbered L ms xs p ns
+  pub all_numbered : {p : ℕ} {ns : List ℕ} → p ≡ length ms + 1 → Listed L ms xs p ns → AllNumbered L ms xs None ns
   all_numbered e x = record {
-    found = record { most = omega arith; before = x.single; wrong = λ h. absurd (omega arith) };
+    first = λ p h. x.single p (omega arith);
     long = x.long;
-    numbers = λ l. record {
+    numbers = λ _. record {
       lefts = λ p h. (x.numbers p (omega arith)).left;
       rights = λ p h. (x.numbers p (omega arith)).right;
       ends = λ p h. (x.numbers p (omega arith)).ends.says;

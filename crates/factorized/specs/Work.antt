@@ -1,17 +1,18 @@
 -- What the private functions look for and do: the first thing that is wrong, the set of left sides seen, the flags of the states that are
 -- reached, the one state on a side. Nothing of it stands in the contract of a public function.
-use Rattle.std.specs.Prelude.{ℕ, ◌+◌, ◌-◌, ◌*◌, ◌/◌, ◌≤◌, ◌<◌, ◌≡◌, ◌≢◌, ◌⊎◌, ◌↔◌, Bool, false, List, [], ◌∷◌, length, drop}
+use Rattle.std.specs.Prelude.{ℕ, ◌+◌, ◌-◌, ◌*◌, ◌/◌, ◌≤◌, ◌<◌, ◌≡◌, ◌≢◌, ◌⊎◌, ◌↔◌, Bool, false, List, [], ◌∷◌, length, drop, Option, Some, None, Result, Ok, Err}
 use Rattle.std.proofs.Math.Logic.{ite}
 use Rattle.std.proofs.Math.Decide.{ℕ_discrete}
 use Rattle.paper.specs.Limits.{Limits, at, leaf_kind, join_kind, eps_kind}
 use Rattle.paper.specs.Told.{Told, Tells, passes}
-use Rattle.paper.specs.First.{NoneWrong}
+use Rattle.paper.specs.First.{NoneWrong, FindsWrong}
 use Rattle.bits.specs.Bits.{word, bit_at}
 use Rattle.table.specs.Rules.{Rule, RulesOf, Reach, sort_of, left_sort, right_sort, both_sort, Final}
 use Rattle.table.specs.Check.{Sound}
 use Rattle.receiver.specs.Receiver.{LeftSideAgain, NotSingle}
 use Rattle.receiver.specs.Numbers.{OneOf, Ends, NumbersOf, number, numbers_each, numbers_size}
 use Rattle.receiver.specs.Check.{ReceiverChecked}
+use Rattle.factorized.specs.declared.NotOne.{NotOne}
 
 -- the rules name states below n and symbols below the most, and the third number of a leaf or ε rule is 0
 pub record InRange (L : Limits) (xs : List ℕ) (n : ℕ) : Type 0 where
@@ -28,12 +29,6 @@ pub record InRange (L : Limits) (xs : List ℕ) (n : ℕ) : Type 0 where
 pub record Ranged (L : Limits) (ms xs : List ℕ) : Type 0 where
   pub rules : InRange L xs (length ms)
   pub few : length ms ≤ L.states
-
--- k is the first of n things that is wrong, or n where none is
-pub record FirstOf (W : ℕ → Type 0) (n k : ℕ) : Type 0 where
-  pub most : k ≤ n
-  pub before : NoneWrong W k
-  pub wrong : k < n → W k
 
 -- the number of a left side: a leaf rule's symbol; behind all symbols, a join rule's two states
 unfoldable pub side_of : Limits → ℕ → ℕ → ℕ → ℕ
@@ -110,19 +105,19 @@ pub record Reached (R : Rule → Type 0) (p : ℕ) (fs : List ℕ) : Type 0 wher
 abbrev pub StandsFlagged : List ℕ → List ℕ → ℕ → ℕ → Type 0
 StandsFlagged ms fs s q = Flagged fs q × Stands ms s q
 
--- of the first k numbers l alone has P; or none has, and l is n
-pub data Single (P : ℕ → Type 0) (n k : ℕ) : ℕ → Type 0 where
-  none : ((q : ℕ) → q < k → ¬ P q) → Single P n k n
-  one : {l : ℕ} → l < k → P l → ((q : ℕ) → q < k → P q → q ≡ l) → Single P n k l
+-- the one of the first k numbers that has P, if one has it
+pub data Single (P : ℕ → Type 0) (k : ℕ) : Option ℕ → Type 0 where
+  none : ((q : ℕ) → q < k → ¬ P q) → Single P k None
+  one : {l : ℕ} → l < k → P l → ((q : ℕ) → q < k → P q → q ≡ l) → Single P k (Some l)
 
 -- two numbers have P
 abbrev pub Two : (ℕ → Type 0) → Type 0
 Two P = (p q : ℕ) × (p ≢ q) × P p × P q
 
--- of the first n numbers r alone has P, or none has and r is n, or two have and r is greater
-pub record TheOne (P : ℕ → Type 0) (n r : ℕ) : Type 0 where
-  pub single : r ≤ n → Single P n n r
-  pub two : n < r → Two P
+-- the one of the first n numbers that has P, if one has it, is told, or that two have it
+abbrev pub TheOne : (ℕ → Type 0) → ℕ → Result (Option ℕ) NotOne → Type 0
+TheOne P n (Ok found) = Single P n found
+TheOne P n (Err two) = Two P
 
 -- a final state is flagged
 abbrev pub FinalFlagged : List ℕ → List ℕ → Type 0
@@ -152,23 +147,17 @@ pub record Listed (L : Limits) (ms xs : List ℕ) (p : ℕ) (ns : List ℕ) : Ty
   pub numbers : (q : ℕ) → q < p → NumbersAt L ms xs ns q
   pub single : NoneWrong (NotSingle L ms xs) p
 
--- p is the first state whose ε reach is not single; where none is, ns has the numbers of all states and of the sink
-pub record AllNumbered (L : Limits) (ms xs : List ℕ) (p : ℕ) (ns : List ℕ) : Type 0 where
-  pub found : FirstOf (NotSingle L ms xs) (length ms + 1) p
+-- the first state whose ε reach is not single is told; where none is, ns has the numbers of all states and of the sink
+pub record AllNumbered (L : Limits) (ms xs : List ℕ) (found : Option ℕ) (ns : List ℕ) : Type 0 where
+  pub first : FindsWrong (NotSingle L ms xs) (length ms + 1) found
   pub long : length ns ≡ numbers_size L.states
-  pub numbers : length ms < p → NumbersOf L ms xs ns
+  pub numbers : found ≡ None → NumbersOf L ms xs ns
 
 -- what is told of a sound table, with the numbers ns where it passes
 pub record Received (L : Limits) (ms xs ns : List ℕ) (t : Told) : Type 0 where
   pub checked : (symbols : ℕ) → Sound L symbols ms xs → ReceiverChecked L symbols ms xs t
   pub long : length ns ≡ numbers_size L.states
   pub numbers : t ≡ passes → NumbersOf L ms xs ns
-
--- the first i numbers of ns stand at the front of os', and behind them all is as in os
-pub record Copying (ns : List ℕ) (i : ℕ) (os os' : List ℕ) : Type 0 where
-  pub size : length os' ≡ length os
-  pub front : (j : ℕ) → j < i → at os' j ≡ at ns j
-  pub behind : (j : ℕ) → i ≤ j → at os' j ≡ at os j
 
 -- the first n numbers of ns are copied to the front of os, if it has room for them
 pub record Copied (ns : List ℕ) (n : ℕ) (os os' : List ℕ) : Type 0 where

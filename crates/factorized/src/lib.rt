@@ -3,20 +3,22 @@
 // specs/Factored has what `factor` tells and leaves, specs/Work what each private function does.
 #![tactic(auto)]
 
-ghost use Rattle.std.specs.Prelude.{◌≡◌, ◌+◌, ◌*◌, ◌/◌, ◌≤◌, ◌<◌, length};
+ghost use Rattle.std.specs.Prelude.{◌≡◌, ◌+◌, ◌*◌, ◌/◌, ◌≤◌, ◌<◌, length, is_err};
 ghost use Rattle.paper.specs.Limits.{limits};
 ghost use Rattle.paper.specs.Told.{Tells, check_told};
+ghost use Rattle.paper.specs.First.{FindsWrong};
 ghost use Rattle.table.specs.Rules.{RulesOf};
 ghost use Rattle.receiver.specs.Receiver.{LeftSideAgain, BreaksSorts};
 ghost use Rattle.receiver.specs.Numbers.{numbers_size};
 ghost use Rattle.receiver.specs.Check.{ReceiverChecked};
 ghost use Rattle.factorized.specs.Factored.{Factored};
-ghost use Rattle.factorized.specs.Work.{InRange, Ranged, FirstOf, side_of, Seen, Looked, OnSide, Rowed, Passed, Closed};
-ghost use Rattle.factorized.specs.Work.{StandsFlagged, TheOne, FinalFlagged, IsBit, Numbered, AllNumbered, Received, Copied};
+ghost use Rattle.factorized.specs.Work.{InRange, Ranged, side_of, Seen, Looked, OnSide, Rowed, Passed, Closed};
+ghost use Rattle.factorized.specs.Work.{StandsFlagged, TheOne, FinalFlagged, Numbered, AllNumbered, Received, Copied};
 
-use paper::{Checked, Refusal};
+use paper::{Checked, Fault, Refusal};
 
 // The sorts of the states that may stand left of a join, right of it, on both sides.
+// Kept: numbers, as they stand in the marks that callers lend, twice a sort and the final mark.
 const LEFT: u16 = 1;
 
 const RIGHT: u16 = 2;
@@ -32,16 +34,9 @@ pub const NUMBERS: usize = EACH * (paper::STATES + 1);
 const SIDE_WORDS: usize = (paper::SYMBOLS as usize + paper::STATES * paper::STATES) / bits::WORD
     + 1;
 
-// A refusal at a place.
-fn refuse(number: u16, place: usize) -> Checked
-    ensures { result ≡ Checked.Refused (record { number = number; side = 0; place = place }) }
-{
-    Checked::Refused(Refusal {
-        number,
-        side: 0,
-        place,
-    })
-}
+// Two states are reached that may stand on one side.
+#[derive(Drop)]
+struct NotOne;
 
 // The number of a left side.
 fn side(kind: u16, left: u16, right: u16) -> usize
@@ -72,22 +67,18 @@ fn is_left_again(rules: &[u16], i: usize, seen: &mut [u16]) -> bool
     false
 }
 
-// The first rule with an earlier one's left side, or the number of rules.
-fn first_left_again(rules: &[u16]) -> usize
+// The first rule with an earlier one's left side, if there is one.
+fn first_left_again(rules: &[u16]) -> Option<usize>
     requires { InRange limits rules.now limits.states }
-    ensures { FirstOf (LeftSideAgain limits rules.now)
-        (length rules.now / limits.width) result }
+    ensures { FindsWrong (LeftSideAgain limits rules.now) (length rules.now / limits.width) result }
 {
     let mut seen = [0u16; SIDE_WORDS];
-    let rows = rules.len() / paper::WIDTH;
-    let mut i = 0;
-    while i < rows {
+    for i in 0..rules.len() / paper::WIDTH {
         if is_left_again(rules, i, &mut seen) {
-            return i;
+            return Some(i);
         }
-        i += 1;
     }
-    i
+    None
 }
 
 // May a state with this mark stand on this side?
@@ -118,21 +109,17 @@ fn breaks_sorts(marks: &[u16], rules: &[u16], i: usize) -> bool
     true
 }
 
-// The first rule that breaks the sorts, or the number of rules.
-fn first_unsorted(marks: &[u16], rules: &[u16]) -> usize
+// The first rule that breaks the sorts, if there is one.
+fn first_unsorted(marks: &[u16], rules: &[u16]) -> Option<usize>
     requires { InRange limits rules.now (length marks.now) }
-    ensures { FirstOf (BreaksSorts limits marks.now rules.now)
-        (length rules.now / limits.width) result }
+    ensures { FindsWrong (BreaksSorts limits marks.now rules.now) (length rules.now / limits.width) result }
 {
-    let rows = rules.len() / paper::WIDTH;
-    let mut i = 0;
-    while i < rows {
+    for i in 0..rules.len() / paper::WIDTH {
         if breaks_sorts(marks, rules, i) {
-            return i;
+            return Some(i);
         }
-        i += 1;
     }
-    i
+    None
 }
 
 // Flags the target of rule k, if it is an ε rule from a flagged state. Tells how many are new.
@@ -162,12 +149,9 @@ fn step_all(rules: &[u16], reached: &mut [u16]) -> usize
     ensures { Passed limits.width rules.now (length rules.now / limits.width)
         reached.old result reached.new }
 {
-    let rows = rules.len() / paper::WIDTH;
     let mut new = 0;
-    let mut k = 0;
-    while k < rows {
+    for k in 0..rules.len() / paper::WIDTH {
         new += step_row(rules, k, reached);
-        k += 1;
     }
     new
 }
@@ -197,82 +181,68 @@ fn stands(marks: &[u16], reached: &[u16], side: u16, q: usize) -> bool
     may_stand(marks[q], side)
 }
 
-// The one flagged state that may stand on this side; the number of states if there is none, and one more if there are two.
-fn the_one(marks: &[u16], reached: &[u16], side: u16) -> usize
+// The one flagged state that may stand on this side, if there is one.
+fn the_one(marks: &[u16], reached: &[u16], side: u16) -> Result<Option<usize>, NotOne>
     requires { length marks.now < length reached.now }
-    ensures { TheOne (StandsFlagged marks.now reached.now side)
-        (length marks.now) result }
+    ensures { TheOne (StandsFlagged marks.now reached.now side) (length marks.now) result }
 {
-    let n = marks.len();
-    let mut one = n;
-    let mut q = 0;
-    while q < n {
+    let mut one = None;
+    for q in 0..marks.len() {
         if stands(marks, reached, side, q) {
-            if one < n {
-                return n + 1;
+            if one.is_some() {
+                return Err(NotOne);
             }
-            one = q;
+            one = Some(q);
         }
-        q += 1;
     }
-    one
+    Ok(one)
 }
 
-// 1 if a final state is flagged, else 0.
-fn ends(marks: &[u16], reached: &[u16]) -> u16
+// Is a final state flagged?
+fn ends(marks: &[u16], reached: &[u16]) -> bool
     requires { length marks.now < length reached.now }
-    ensures { IsBit (FinalFlagged marks.now reached.now) result }
+    ensures { Tells result (FinalFlagged marks.now reached.now) }
 {
-    let mut q = 0;
-    while q < marks.len() {
+    for q in 0..marks.len() {
         if reached[q] != 0 {
             if marks[q] % 2 == 1 {
-                return 1;
+                return true;
             }
         }
-        q += 1;
     }
-    0
+    false
 }
 
-// Is the ε reach of state p not single? If it is, the numbers of p are written.
-fn splits(marks: &[u16], rules: &[u16], p: usize, numbers: &mut [u16]) -> bool
+// Writes the numbers of state p, if its ε reach is single. The sink's number, which is the number of states, stands for no state.
+fn number_state(marks: &[u16], rules: &[u16], p: usize, numbers: &mut [u16]) -> Result<(), NotOne>
     requires ranged { Ranged limits marks.now rules.now × (length numbers.old ≡ numbers_size limits.states) }
     requires p_in_bounds { p ≤ length marks.now }
     ensures { Numbered limits marks.now rules.now p
-        numbers.old result numbers.new }
+        numbers.old (is_err result) numbers.new }
 {
     let mut reached = [0u16; paper::STATES + 1];
     reached[p] = 1;
     close(rules, &mut reached);
-    let left = the_one(marks, &reached, LEFT);
-    if marks.len() < left {
-        return true;
-    }
-    let right = the_one(marks, &reached, RIGHT);
-    if marks.len() < right {
-        return true;
-    }
+    let left = the_one(marks, &reached, LEFT)?;
+    let right = the_one(marks, &reached, RIGHT)?;
     let place = EACH * p;
-    numbers[place] = left as u16;
-    numbers[place + 1] = right as u16;
-    numbers[place + 2] = ends(marks, &reached);
-    false
+    numbers[place] = left.unwrap_or(marks.len()) as u16;
+    numbers[place + 1] = right.unwrap_or(marks.len()) as u16;
+    numbers[place + 2] = u16::from(ends(marks, &reached));
+    Ok(())
 }
 
 // Writes the numbers of all states, and of the sink as of one state more; the first state whose ε reach is not single ends it, and is told.
-fn number_states(marks: &[u16], rules: &[u16], numbers: &mut [u16]) -> usize
+fn number_states(marks: &[u16], rules: &[u16], numbers: &mut [u16]) -> Option<usize>
     requires { Ranged limits marks.now rules.now × (length numbers.old ≡ numbers_size limits.states) }
     ensures { AllNumbered limits marks.now rules.now result numbers.new }
 {
-    let mut p = 0;
-    while p <= marks.len() {
-        if splits(marks, rules, p, numbers) {
-            return p;
+    for p in 0..=marks.len() {
+        if number_state(marks, rules, p, numbers).is_err() {
+            return Some(p);
         }
-        p += 1;
     }
-    p
+    None
 }
 
 // Looks for 7, 8 and 9; where there is none of them, the numbers of all states are written.
@@ -280,20 +250,16 @@ fn receive(marks: &[u16], rules: &[u16], numbers: &mut [u16]) -> Checked
     requires { Ranged limits marks.now rules.now × (length numbers.old ≡ numbers_size limits.states) }
     ensures { Received limits marks.now rules.now numbers.new (check_told result) }
 {
-    let rows = rules.len() / paper::WIDTH;
-    let again = first_left_again(rules);
-    if again < rows {
-        return refuse(paper::LEFT_SIDE, again + 1);
+    if let Some(rule) = first_left_again(rules) {
+        return Err(Refusal::at(Fault::LeftSide, rule + 1));
     }
-    let unsorted = first_unsorted(marks, rules);
-    if unsorted < rows {
-        return refuse(paper::SORTS, unsorted + 1);
+    if let Some(rule) = first_unsorted(marks, rules) {
+        return Err(Refusal::at(Fault::Sorts, rule + 1));
     }
-    let state = number_states(marks, rules, numbers);
-    if state <= marks.len() {
-        return refuse(paper::REACHES, state + 1);
+    if let Some(state) = number_states(marks, rules, numbers) {
+        return Err(Refusal::at(Fault::Reaches, state + 1));
     }
-    Checked::Passes
+    Ok(())
 }
 
 // Copies the first n numbers to the front of another slice, if that has room for them.
@@ -304,11 +270,7 @@ fn copy(numbers: &[u16], n: usize, out: &mut [u16])
     if out.len() < n {
         return;
     }
-    let mut i = 0;
-    while i < n {
-        out[i] = numbers[i];
-        i += 1;
-    }
+    out[..n].copy_from_slice(&numbers[..n]);
 }
 
 // Checks a receiver's table: the table's own refusals, then 7, 8 and 9.
@@ -324,13 +286,9 @@ pub fn factor(symbols: u16, marks: &[u16], rules: &[u16], numbers: &mut [u16]) -
     ensures { Factored limits symbols marks.now rules.now
         numbers.old numbers.new (check_told result) }
 {
-    if let Checked::Refused(refusal) = table::check(symbols, marks, rules) {
-        return Checked::Refused(refusal);
-    }
+    table::check(symbols, marks, rules)?;
     let mut all = [0u16; NUMBERS];
-    if let Checked::Refused(refusal) = receive(marks, rules, &mut all) {
-        return Checked::Refused(refusal);
-    }
+    receive(marks, rules, &mut all)?;
     copy(&all, EACH * (marks.len() + 1), numbers);
-    Checked::Passes
+    Ok(())
 }

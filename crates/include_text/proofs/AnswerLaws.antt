@@ -10,18 +10,15 @@ use Rattle.paper.specs.Told.{Told, written, holds}
 use Rattle.paper.specs.declared.Refusal.{Refusal}
 use Rattle.table.specs.Room.{NoRoom}
 use Rattle.table.proofs.Range.{states_few, symbols_few}
-use Rattle.rule_read.specs.Text.{text_told, TextRefused, Reads, told}
-use Rattle.rule_read.specs.declared.Reading.{Reading}
-use Rattle.rule_read.specs.declared.Reading.TheVariants.{Read, Refused}
+use Rattle.std.specs.Prelude.{Ok, Err, None, Some}
+use Rattle.table.specs.declared.Sizes.{Sizes}
+use Rattle.rule_read.specs.Text.{Reading, text_told, TextRefused, Reads, told}
 use Rattle.rule_read.proofs.Exact.{refused_not_holds, text_holds, read_on}
 use Rattle.rule_read.proofs.Wrong.{text_refused_exactly}
 use Rattle.rule_read.proofs.Said.{wide_limits}
 use Rattle.rule_write.proofs.Trips.{read_back}
 use Rattle.inclusion.specs.Inclusion as inclusion
-use Rattle.inclusion.specs.Inclusion.{Lent, lent, most_nodes, Comparable, Answered}
-use Rattle.inclusion.specs.declared.Answer.{Answer}
-use Rattle.inclusion.specs.declared.Answer.TheVariants.{Included, Witness}
-use Rattle.inclusion.specs.declared.Answer.TheVariants as variants
+use Rattle.inclusion.specs.Inclusion.{Answer, Lent, lent, most_nodes, Comparable, Answered}
 use Rattle.inclusion.proofs.EntryLaws.{product_small}
 use Rattle.put.specs.Put.{Put, Fit, Wrote}
 use Rattle.answers.specs.Lines.{refused_line_of, included_line, witness_line, node_lines, witness_text}
@@ -41,32 +38,32 @@ module _ {s M W M' W' : List ℕ} {r : Reading} (x : Reads limits s M W r M' W')
   told_text : told r ≡ text_told limits s
   told_text = x.answer ∙ read_on limits s M W room
 
-  pub text_refused : {f : Refusal} → r ≡ Refused f → TextRefused limits s f.number f.side f.place
+  pub text_refused : {f : Refusal} → r ≡ Err f → TextRefused limits s f.number f.side f.place
   text_refused {f} q = (text_refused_exactly limits s f.number f.side f.place).0 (sym told_text ∙ ap told q)
 
-  module _ {y n t : ℕ} (q : r ≡ Read y n t) where
-    tells : text_told limits s ≡ holds y n t
+  module _ {z : Sizes} (q : r ≡ Ok z) where
+    tells : text_told limits s ≡ holds z.symbols z.states z.rules
     tells = sym told_text ∙ ap told q
 
     pub text_right : Right limits s
     text_right a d p h = refused_not_holds (sym ((text_refused_exactly limits s a d p).1 h) ∙ tells)
 
-    pub states_inside : n ≤ length M'
+    pub states_inside : z.states ≤ length M'
     states_inside =
-        let b = read_back limits wide_limits s M W M' W' y n t (rw q at x) in
-        let h = text_holds limits s y n t tells in
-        omega (arith, ap length b.marks, length-take n M', h.marks)
+        let b = read_back limits wide_limits s M W M' W' z.symbols z.states z.rules (rw q at x) in
+        let h = text_holds limits s z.symbols z.states z.rules tells in
+        omega (arith, ap length b.marks, length-take z.states M', h.marks)
 
-    pub rules_inside : t * 4 ≤ length W'
+    pub rules_inside : z.rules * 4 ≤ length W'
     rules_inside =
-        let b = read_back limits wide_limits s M W M' W' y n t (rw q at x) in
-        let h = text_holds limits s y n t tells in
-        omega (arith, ap length b.rules, length-take (t * 4) W', h.rules)
+        let b = read_back limits wide_limits s M W M' W' z.symbols z.states z.rules (rw q at x) in
+        let h = text_holds limits s z.symbols z.states z.rules tells in
+        omega (arith, ap length b.rules, length-take (z.rules * 4) W', h.rules)
 
-    pub table_read : lent y (take n M') (take (t * 4) W') ≡ table_of s
+    pub table_read : lent z.symbols (take z.states M') (take (z.rules * 4) W') ≡ table_of s
     table_read =
-        let b = read_back limits wide_limits s M W M' W' y n t (rw q at x) in
-        let h = text_holds limits s y n t tells in
+        let b = read_back limits wide_limits s M W M' W' z.symbols z.states z.rules (rw q at x) in
+        let h = text_holds limits s z.symbols z.states z.rules tells in
         rw (h.symbols, b.marks, b.rules) refl
 
 -- a refusal's line fits
@@ -78,19 +75,19 @@ meets_refused {n = n} {p = p} r h w =
 
 -- what is written for each case of the answer
 module _ {a : Answer} (ws : List ℕ) where
-  pub text_included : a ≡ Included → answer_text (inclusion.told a) ws ≡ included_line
+  pub text_included : a ≡ Ok None → answer_text (inclusion.told a) ws ≡ included_line
   unfolding answer_text
   text_included e = rw e refl
 
-  pub text_refusal : {f : Refusal} → a ≡ variants.Refused f → answer_text (inclusion.told a) ws ≡ refused_line_of f.side f.number f.place
+  pub text_refusal : {f : Refusal} → a ≡ Err f → answer_text (inclusion.told a) ws ≡ refused_line_of f.side f.number f.place
   unfolding answer_text
   text_refusal e = rw e refl
 
-  pub text_witness : {k : ℕ} → a ≡ Witness k → answer_text (inclusion.told a) ws ≡ witness_line k ++ node_lines ws k
+  pub text_witness : {k : ℕ} → a ≡ Ok (Some k) → answer_text (inclusion.told a) ws ≡ witness_line k ++ node_lines ws k
   unfolding answer_text witness_text
   text_witness e = rw e refl
 
-  pub told_enough : {k : ℕ} → a ≡ Witness k → Enough (inclusion.told a) ws → 2 * k ≤ length ws
+  pub told_enough : {k : ℕ} → a ≡ Ok (Some k) → Enough (inclusion.told a) ws → 2 * k ≤ length ws
   told_enough e h = rw e at h
 
 -- the witness slice has the nodes that are told

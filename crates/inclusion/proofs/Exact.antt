@@ -16,12 +16,11 @@ use Rattle.table.specs.Check.{TableRefused}
 use Rattle.table.proofs.Exact as table
 use Rattle.receiver.specs.Check.{ReceiverRefused, is_refused, is_passed}
 use Rattle.factorized.proofs.Exact.{receiver_unique}
-use Rattle.inclusion.specs.Inclusion.{Lent, AcceptedBy, Includes, Good, GoodReceiver, Comparable, Witnessed, told}
+use Rattle.inclusion.specs.Inclusion.{Lent, AcceptedBy, Includes, Good, GoodReceiver, Comparable, Witnessed, Answer, told}
 use Rattle.inclusion.specs.Inclusion.{IncludeRefused, of_sender, of_receiver, symbol_counts, no_room}
 use Rattle.inclusion.specs.Inclusion.{Answered}
 use Rattle.inclusion.specs.Inclusion as answer
-use Rattle.inclusion.specs.declared.Answer.{Answer}
-use Rattle.inclusion.specs.declared.Answer.TheVariants.{Included, Witness, Refused}
+use Rattle.std.specs.Prelude.{Some, None, Ok, Err}
 
 -- a refusal is told apart from the two answers, and these from each other
 refused_not_included : {n s p : ℕ} → refused n s p ≡ included → ⊥
@@ -147,24 +146,24 @@ module _ (L : Limits) (A B : Lent) where
 
 -- the answer is known by what it tells
 pub told_unique : (a b : Answer) → told a ≡ told b → a ≡ b
-told_unique Included Included e = refl
-told_unique Included (Witness k) e = absurd (included_not_witness e)
-told_unique Included (Refused r) e = absurd (refused_not_included (sym e))
-told_unique (Witness k) Included e = absurd (included_not_witness (sym e))
-told_unique (Witness j) (Witness k) e = ap Witness cc
-told_unique (Witness k) (Refused r) e = absurd (refused_not_witness (sym e))
-told_unique (Refused r) Included e = absurd (refused_not_included e)
-told_unique (Refused r) (Witness k) e = absurd (refused_not_witness e)
-told_unique (Refused r) (Refused s) e = ap Refused (refusal_unique r s e)
+told_unique (Ok None) (Ok None) e = refl
+told_unique (Ok None) (Ok (Some k)) e = absurd (included_not_witness e)
+told_unique (Ok None) (Err r) e = absurd (refused_not_included (sym e))
+told_unique (Ok (Some k)) (Ok None) e = absurd (included_not_witness (sym e))
+told_unique (Ok (Some j)) (Ok (Some k)) e = ap (λ (n : ℕ). Ok (Some n)) cc
+told_unique (Ok (Some k)) (Err r) e = absurd (refused_not_witness (sym e))
+told_unique (Err r) (Ok None) e = absurd (refused_not_included e)
+told_unique (Err r) (Ok (Some k)) e = absurd (refused_not_witness e)
+told_unique (Err r) (Err s) e = ap Err (refusal_unique r s e)
 
 -- two answers that the contract of `include` allows are one, and so are the slices, unless both hand out a witness
 pub include_unique : (L : Limits) (A B : Lent) (ws ws' ws'' : List ℕ) (a b : Answer) → Answered L A B ws ws' (told a) → Answered L A B ws ws'' (told b)
-    → ((a ≡ b) × (ws' ≡ ws'')) ⊎ (((k : ℕ) × (a ≡ Witness k)) × ((k : ℕ) × (b ≡ Witness k)))
+    → ((a ≡ b) × (ws' ≡ ws'')) ⊎ (((k : ℕ) × (a ≡ Ok (Some k))) × ((k : ℕ) × (b ≡ Ok (Some k))))
 include_unique L A B ws ws' ws'' a b x y =
     ⊎_elim
     (λ (e : (told a ≡ told b) × (ws' ≡ ws'')). inl (told_unique a b e.0, e.1))
     (λ (e : ((k : ℕ) × (told a ≡ witness k)) × ((k : ℕ) × (told b ≡ witness k))).
-    inr ((e.0.0, told_unique a (Witness e.0.0) e.0.1), (e.1.0, told_unique b (Witness e.1.0) e.1.1)))
+    inr ((e.0.0, told_unique a (Ok (Some e.0.0)) e.0.1), (e.1.0, told_unique b (Ok (Some e.1.0)) e.1.1)))
     (told_unique_but_witness L A B ws ws' ws'' (told a) (told b) x y)
 
 -- as many nodes as are told stand at the front of the slice

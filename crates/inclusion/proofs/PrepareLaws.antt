@@ -26,8 +26,7 @@ use Rattle.inclusion.specs.Trace.{Failed}
 use Rattle.pairs.specs.Work.{memory_of}
 use Rattle.moves.specs.Receiving.{Rules}
 use Rattle.inclusion.specs.Search.{Searchable, Found, all_pass_of, one_fails_of}
-use Rattle.inclusion.specs.declared.search.Outcome.{Outcome}
-use Rattle.inclusion.specs.declared.search.Outcome.TheVariants.{Included, Failing}
+use Rattle.std.specs.Prelude.{Option, Some, None}
 
 -- the numbers of the states are known by their front
 numbers_keep : {L : Limits} {ms xs ns : List ℕ} (ns' : List ℕ) → NumbersOf L ms xs ns
@@ -94,9 +93,13 @@ module _ {symbols : ℕ} {mS xS mB xB : List ℕ} (sound : Sound limits symbols 
       let f = ready.size in
       ⊎_elim (λ x. absurd (omega arith)) (λ x. absurd (omega arith)) h
 
-  module _ {r : ℕ} {is : List ℕ} (built : Built limits.width xB (length mB) (drop z.index ws) r is) where
+  module _ {o : Option ℕ} {is : List ℕ} (built : Built limits.width xB (length mB) (drop z.index ws) o is) where
+    -- so many numbers has the index
+    abbrev r : ℕ
+    r = (built.with index_room).0
+
     holds : Holds limits.width xB (length mB) (drop z.index ws) r is
-    holds = built.with index_room
+    holds = (built.with index_room).2
 
     long : length (take z.index ws ++ is) ≡ length ws
     long = changed_long ws is z.index index_inside holds.size
@@ -161,33 +164,33 @@ module _ {symbols : ℕ} {mS xS mB xB : List ℕ} (sound : Sound limits symbols 
     }
 
   -- the same where the rest was lent and is given back
-  pub built_searchable : {r : ℕ} {is : List ℕ}
-      → Built limits.width xB (length mB) (mid_of z.index (length ws - z.index) ws) r is
+  pub built_searchable : {o : Option ℕ} {is : List ℕ}
+      → Built limits.width xB (length mB) (mid_of z.index (length ws - z.index) ws) o is
       → Searchable limits mS xS mB xB z (put_mid z.index (length ws - z.index) ws is)
   built_searchable {is = is} b =
       rw (rest_back ws is z.index index_inside) (prepared_searchable (rw (rest_lent ws z.index) at b))
 
 -- what the search found
-pub found_all : {L : Limits} {mS xS mB xB : List ℕ} {z : Sizes} {ws : List ℕ} {o : Outcome} → Found L mS xS mB xB z ws o → o ≡ Included
+pub found_all : {L : Limits} {mS xS mB xB : List ℕ} {z : Sizes} {ws : List ℕ} {o : Option ℕ} → Found L mS xS mB xB z ws o → o ≡ None
     → (t : Tree) → Accepts (Rules L xS) mS t → Accepts (Rules L xB) mB t
 found_all (all_pass_of h) e = h
 found_all (one_fails_of f) e = absurd (failing_not e)
   where
-    failing_not : {i : ℕ} → Failing i ≡ Included → ⊥
+    failing_not : {i : ℕ} → ◌≡◌ {A = Option ℕ} (Some i) None → ⊥
     failing_not e = let z : ◌≡◌ {A = ℕ} 0 1 = cc in omega arith
 
-pub found_one : {L : Limits} {mS xS mB xB : List ℕ} {z : Sizes} {ws : List ℕ} {o : Outcome} (i : ℕ) → Found L mS xS mB xB z ws o → o ≡ Failing i
+pub found_one : {L : Limits} {mS xS mB xB : List ℕ} {z : Sizes} {ws : List ℕ} {o : Option ℕ} (i : ℕ) → Found L mS xS mB xB z ws o → o ≡ Some i
     → Failed (Rules L xS) (Rules L xB) mS mB z.receivers z.pairs (memory_of z ws) i
 found_one i (all_pass_of h) e = absurd (included_not e)
   where
-    included_not : Included ≡ Failing i → ⊥
+    included_not : ◌≡◌ {A = Option ℕ} None (Some i) → ⊥
     included_not e = let z : ◌≡◌ {A = ℕ} 0 1 = cc in omega arith
 found_one {L} {mS} {xS} {mB} {xB} {z} {ws} i (one_fails_of {i = j} f) e =
     let d : j ≡ i = cc in
     subst (λ (k : ℕ). Failed (Rules L xS) (Rules L xB) mS mB z.receivers z.pairs (memory_of z ws) k) d f
 
 -- the pair that fails, among the pairs of the two tables
-pub search_failed : {mS xS mB xB : List ℕ} {z : Sizes} {ws' : List ℕ} {o : Outcome} (i : ℕ) → length mB ≡ z.receivers
-    → Found limits mS xS mB xB z ws' o → o ≡ Failing i
+pub search_failed : {mS xS mB xB : List ℕ} {z : Sizes} {ws' : List ℕ} {o : Option ℕ} (i : ℕ) → length mB ≡ z.receivers
+    → Found limits mS xS mB xB z ws' o → o ≡ Some i
     → Failed (RulesOf limits.width xS) (RulesOf limits.width xB) mS mB (length mB) z.pairs (memory z.base z.pairs ws') i
 search_failed i e f d = rw e (found_one i f d)

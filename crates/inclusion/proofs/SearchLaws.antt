@@ -26,7 +26,7 @@ use Rattle.pairs.proofs.WorkLaws.{took}
 use Rattle.moves.specs.Looked.{FailsAt}
 use Rattle.moves.specs.Receiving.{Rules, ReceiverOf, Fails}
 use Rattle.moves.proofs.MoveLaws.{receiving_as, numbered, fails_told, leaf_small, join_small}
-use Rattle.inclusion.specs.declared.search.Outcome.TheVariants.{Included, Failing}
+use Rattle.std.specs.Prelude.{Some, None}
 use Rattle.inclusion.specs.Search.{Searchable, Found, all_pass_of, one_fails_of}
 use Rattle.steps.specs.Runs.{row_at, Leaves, Closing, Joins}
 use Rattle.steps.specs.Steps.{Ready, LeafDone, EpsFrom, Joined, JoinDone}
@@ -158,14 +158,6 @@ ready_none {mS = mS} {mB = mB} {z = z} {ws = ws} c =
     }
 
 module _ {L : Limits} {z : Sizes} {mS xS xB : List ℕ} where
-  -- what was first the slice is another one
-  pub going_here : {ws₀ ws : List ℕ} {k i : ℕ} → Going L z mS xS xB ws₀ ws k i → Going L z mS xS xB ws ws k i
-  going_here g = record { size = refl; fixed = refl; ready = g.ready; searched = g.searched }
-
-  pub going_since : {ws₀ ws₁ ws : List ℕ} {k₁ i₁ k i : ℕ} → Going L z mS xS xB ws₀ ws₁ k₁ i₁ → Going L z mS xS xB ws₁ ws k i
-      → Going L z mS xS xB ws₀ ws k i
-  going_since a g = record { size = g.size ∙ a.size; fixed = g.fixed ∙ a.fixed; ready = g.ready; searched = g.searched }
-
   -- the pair at place i is taken
   module _ {ws₀ ws : List ℕ} {k i : ℕ} (g : Going L z mS xS xB ws₀ ws k i) (h : i < k) {ws' : List ℕ} {pair : Pair} (t : TakeRead z ws i ws' pair) where
     taking_it : Took z ws i ws' pair
@@ -238,7 +230,7 @@ module _ (L : Limits) (wide : 0 < L.width) (few : L.symbols ≤ leaf_mark) {z : 
 module _ (L : Limits) (wide : 0 < L.width) {z : Sizes} {mS xS mB xB ws₀ : List ℕ} (c : Searchable L mS xS mB xB z ws₀) where
   -- the pair at place i fails
   pub one_fails : {ws ws' : List ℕ} {k i : ℕ} {pair : Pair} (g : Going L z mS xS xB ws₀ ws k i) (h : i < k) → TakeRead z ws i ws' pair
-      → Fails z mS ws' pair → Found L mS xS mB xB z ws' (Failing i)
+      → Fails z mS ws' pair → Found L mS xS mB xB z ws' (Some i)
   one_fails {ws} {ws'} {k} {i} {pair} g h t f = one_fails_of record {
     count = k;
     state = took_state g h t;
@@ -285,6 +277,6 @@ module _ (L : Limits) (wide : 0 < L.width) {z : Sizes} {mS xS mB xB ws₀ : List
         (c.receiver.numbers.ends q (omega (arith, a.0, c.receiver.states))).0
         (rw (← g.fixed) (g.searched.passed j p q (omega arith) a.0 ej fp))
 
-    pub all_pass : Found L mS xS mB xB z ws Included
+    pub all_pass : Found L mS xS mB xB z ws None
     all_pass = all_pass_of (tables_included L wide mS xS mB xB c.receiver.sound c.receiver.receives Pairs
         (rw c.receiver.states (closed_of_rows closed)) ends)

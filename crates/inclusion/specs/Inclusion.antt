@@ -1,7 +1,7 @@
 -- The inclusion test of two tables, the sender's and the receiver's, with a lent witness slice: its refusals, each as "given exactly if",
 -- and its two answers. "Included" is said exactly if every tree that the sender accepts the receiver accepts; otherwise the slice holds a
 -- tree that the sender accepts and the receiver rejects.
-use Rattle.std.specs.Prelude.{ℕ, ◌+◌, ◌*◌, ◌≤◌, ◌<◌, ◌≡◌, ◌≢◌, ◌⊎◌, List, length, take, drop}
+use Rattle.std.specs.Prelude.{ℕ, ◌+◌, ◌*◌, ◌≤◌, ◌<◌, ◌≡◌, ◌≢◌, ◌⊎◌, List, length, take, drop, Option, Some, None, Result, Ok, Err}
 use Rattle.paper.specs.Limits.{Limits, at}
 use Rattle.paper.specs.Told.{Told, refused, included, witness, refusal}
 use Rattle.tree.specs.Tree.{Tree, leaf_mark, tree_of}
@@ -10,8 +10,7 @@ use Rattle.table.specs.Rules.{RulesOf, Accepts}
 use Rattle.table.specs.Check.{TableRefused, Sound}
 use Rattle.receiver.specs.Receiver.{Receives}
 use Rattle.receiver.specs.Check.{ReceiverRefused}
-use Rattle.inclusion.specs.declared.Answer.{Answer}
-use Rattle.inclusion.specs.declared.Answer.TheVariants.{Included, Witness, Refused}
+use Rattle.paper.specs.declared.Refusal.{Refusal}
 
 -- a table as it is lent
 pub record Lent : Type 0 where
@@ -76,8 +75,11 @@ pub data Answered (L : Limits) (A B : Lent) (ws ws' : List ℕ) : Told → Type 
   is_included : Comparable L A B (length ws) → Includes L A B → ws' ≡ ws → Answered L A B ws ws' included
   is_witness : {k : ℕ} → Comparable L A B (length ws) → Witnessed L A B ws ws' k → Answered L A B ws ws' (witness k)
 
--- what the answer tells
+-- an answer, the nodes of a witness if there is one, and what it tells
+abbrev pub Answer : Type 0
+Answer = Result (Option ℕ) Refusal
+
 abbrev pub told : Answer → Told
-told Included = included
-told (Witness k) = witness k
-told (Refused r) = refusal r
+told (Ok None) = included
+told (Ok (Some k)) = witness k
+told (Err r) = refusal r

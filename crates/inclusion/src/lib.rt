@@ -4,14 +4,13 @@
 // specs/Search, Trace and Write have what their functions do to the work memory.
 #![tactic(auto)]
 
-ghost use Rattle.std.specs.Prelude.{◌≡◌, ◌≤◌, length};
+ghost use Rattle.std.specs.Prelude.{◌≤◌, Ok, length};
 ghost use Rattle.paper.specs.Limits.{limits};
 ghost use Rattle.inclusion.specs.Inclusion.{lent, Answered, Comparable, told};
 ghost use Rattle.inclusion.specs.Prepare.{Laid, Prepared};
 
 use pairs::Sizes;
-use paper::{Checked, Refusal};
-use search::Outcome;
+use paper::{Fault, Refusal, Side};
 
 mod search;
 mod witness;
@@ -20,35 +19,6 @@ mod witness;
 const PAIRS: usize = paper::STATES * (paper::STATES + 1);
 
 const WORK: usize = factorized::NUMBERS + paper::STATES + 1 + paper::RULES + pairs::PARTS * PAIRS;
-
-#[derive(Drop)]
-pub enum Answer {
-    Included,
-    Witness(usize),
-    Refused(Refusal),
-}
-
-// A refusal of the whole.
-fn refuse(number: u16) -> Answer
-    ensures { result ≡ Answer.Refused (record { number = number; side = 0; place = 0 }) }
-{
-    Answer::Refused(Refusal {
-        number,
-        side: 0,
-        place: 0,
-    })
-}
-
-// A refusal of one side's table.
-fn refuse_side(f: Refusal, side: u16) -> Answer
-    ensures { result ≡ Answer.Refused (record { number = f.number; side = side; place = f.place }) }
-{
-    Answer::Refused(Refusal {
-        number: f.number,
-        side,
-        place: f.place,
-    })
-}
 
 // Where the parts of the work memory begin, for so many states of the sender and of the receiver and so many rules of the receiver.
 fn lay(senders: usize, receivers: usize, rules: usize) -> Sizes
@@ -65,6 +35,7 @@ fn lay(senders: usize, receivers: usize, rules: usize) -> Sizes
 }
 
 // Compares two tables that nothing is wrong with; first in the work memory stand the numbers of the receiver's states, and then zeros.
+// Tells how many nodes the witness has, if there is one.
 fn compare(
     symbols: u16,
     sender_marks: &[u16],
@@ -73,13 +44,13 @@ fn compare(
     receiver_rules: &[u16],
     work: &mut [u16],
     witness: &mut [u16],
-) -> Answer
+) -> Option<usize>
     requires { Comparable limits (lent symbols sender_marks.now sender_rules.now)
         (lent symbols receiver_marks.now receiver_rules.now) (length witness.old)
         × Prepared receiver_marks.now receiver_rules.now work.old }
     ensures { Answered limits (lent symbols sender_marks.now sender_rules.now)
         (lent symbols receiver_marks.now receiver_rules.now)
-        witness.old witness.new (told result) }
+        witness.old witness.new (told (Ok result)) }
 {
     let z = lay(
         sender_marks.len(),
@@ -88,14 +59,12 @@ fn compare(
     );
     let index = z.index;
     joins::build(receiver_rules, receiver_marks.len(), &mut work[index..]);
-    let outcome = search::search(sender_marks, sender_rules, receiver_rules, z, work);
-    let Outcome::Failing(i) = outcome else {
-        return Answer::Included;
-    };
-    Answer::Witness(witness::witness(z, work, witness, i))
+    let i = search::search(sender_marks, sender_rules, receiver_rules, z, work)?;
+    Some(witness::witness(z, work, witness, i))
 }
 
-// Is every tree that the sender's table accepts accepted by the receiver's? If not, a witness is written to the front of the slice.
+// Is every tree that the sender's table accepts accepted by the receiver's? If not, a witness is written to the front of the slice, and
+// the count of its nodes is told.
 pub fn include(
     sender_symbols: u16,
     sender_marks: &[u16],
@@ -104,26 +73,26 @@ pub fn include(
     receiver_marks: &[u16],
     receiver_rules: &[u16],
     witness: &mut [u16],
-) -> Answer
+) -> Result<Option<usize>, Refusal>
     ensures { Answered limits (lent sender_symbols sender_marks.now sender_rules.now)
         (lent receiver_symbols receiver_marks.now receiver_rules.now)
         witness.old witness.new (told result) }
 {
-    if let Checked::Refused(f) = table::check(sender_symbols, sender_marks, sender_rules) {
-        return refuse_side(f, paper::SENDER);
+    if let Err(f) = table::check(sender_symbols, sender_marks, sender_rules) {
+        return Err(f.of(Side::Sender));
     }
     let mut work = [0u16; WORK];
     let checked = factorized::factor(receiver_symbols, receiver_marks, receiver_rules, &mut work);
-    if let Checked::Refused(f) = checked {
-        return refuse_side(f, paper::RECEIVER);
+    if let Err(f) = checked {
+        return Err(f.of(Side::Receiver));
     }
     if sender_symbols != receiver_symbols {
-        return refuse(paper::SYMBOL_COUNTS);
+        return Err(Refusal::at(Fault::SymbolCounts, 0));
     }
     if witness.len() < 2 * (sender_marks.len() * (receiver_marks.len() + 1)) {
-        return refuse(paper::WITNESS_ROOM);
+        return Err(Refusal::at(Fault::WitnessRoom, 0));
     }
-    compare(
+    Ok(compare(
         sender_symbols,
         sender_marks,
         sender_rules,
@@ -131,5 +100,5 @@ pub fn include(
         receiver_rules,
         &mut work,
         witness,
-    )
+    ))
 }

@@ -5,31 +5,38 @@ ghost use Rattle.std.specs.Prelude.{ℕ, List};
 ghost use Rattle.paper.specs.Limits.{limits};
 ghost use Rattle.inclusion.specs.Search.{Searches, Searchable};
 
-use pairs::Sizes;
+use pairs::{Queue, Sizes};
 
-#[derive(Drop)]
-pub(crate) enum Outcome {
-    Included,
-    Failing(usize),
-}
-
-// Takes pair after pair, until one fails or all are taken.
-pub(crate) fn search(marks: &[u16], s: &[u16], r: &[u16], z: Sizes, work: &mut [u16]) -> Outcome
+// Takes pair after pair, until one fails or all are taken; tells the place of the one that fails.
+pub(crate) fn search(
+    marks: &[u16],
+    s: &[u16],
+    r: &[u16],
+    z: Sizes,
+    work: &mut [u16],
+) -> Option<usize>
     requires { (mB : List ℕ) × Searchable limits marks.now s.now mB r.now z work.old }
     ensures { Searches limits marks.now s.now r.now z work.old
         work.new result }
 {
-    let a = steps::leaves(s, r, z, work);
-    let mut k = steps::close_eps(s, z, work, 0, a);
-    let mut i = 0;
-    while i < k {
-        let pair = pairs::take(z, work, i);
-        if moves::fails(marks, work, pair) {
-            return Outcome::Failing(i);
+    let mut queue = Queue {
+        sizes: z,
+        work,
+        count: 0,
+    };
+    steps::leaves(s, r, &mut queue);
+    steps::close_eps(s, &mut queue, 0);
+    for i in 0..z.pairs {
+        if queue.count <= i {
+            return None;
         }
-        let b = steps::join_all(s, r, z, work, pair, k);
-        k = steps::close_eps(s, z, work, k, b);
-        i += 1;
+        let pair = queue.take(i);
+        if moves::fails(marks, queue.slice(), pair) {
+            return Some(i);
+        }
+        let from = queue.count;
+        steps::join_all(s, r, &mut queue, pair);
+        steps::close_eps(s, &mut queue, from);
     }
-    Outcome::Included
+    None
 }

@@ -53,10 +53,8 @@ fn mark(base: usize, n: usize, work: &mut [u16], i: usize)
     requires { Traced base n (memory base n work.old) (i + 1) }
     ensures { Wanting base n (memory base n work.old) (memory base n work.new) i (i + 1) }
 {
-    let mut c = 0;
-    while c < n {
+    for c in 0..n {
         work[base + c] = 0;
-        c += 1;
     }
     let root = work[base + n + i] as usize;
     work[base + root] = NEEDED;
@@ -88,9 +86,7 @@ fn want(base: usize, n: usize, work: &mut [u16], i: usize)
     ensures { Wanting base n (memory base n work.old) (memory base n work.new) i 0 }
 {
     mark(base, n, work, i);
-    let mut j = i + 1;
-    while 0 < j {
-        j -= 1;
+    for j in (0..i + 1).rev() {
         want_row(base, n, work, j);
     }
 }
@@ -147,10 +143,8 @@ pub(crate) fn witness(z: Sizes, work: &mut [u16], out: &mut [u16], i: usize) -> 
     let n = z.pairs;
     want(base, n, work, i);
     let mut m = 0;
-    let mut j = 0;
-    while j <= i {
+    for j in 0..i + 1 {
         m = write_row(base, n, work, out, j, m);
-        j += 1;
     }
     m
 }

@@ -5,8 +5,6 @@
 ghost use Rattle.std.specs.Prelude.{◌≡◌, ◌+◌, ◌*◌, ◌≤◌, length};
 ghost use Rattle.lines.specs.Number.{most_number};
 
-use accept::Answer as Judgement;
-use inclusion::Answer;
 use std::io;
 use std::rt::Files;
 
@@ -26,19 +24,14 @@ struct Place {
     count: usize,
 }
 
-// Number a of the slice, or 0.
-fn at(all: &[u16], a: usize) -> u16 {
-    if a < all.len() { all[a] } else { 0 }
-}
-
 fn table_at(all: &[u16], a: usize) -> Place
     requires { a ≤ 3 * most_number }
     ensures { (result.rules ≤ a + 3 + most_number) × (result.count ≤ most_number) }
 {
-    let states = at(all, a + 1) as usize;
-    let count = at(all, a + 2 + states) as usize;
+    let states = say::at(all, a + 1) as usize;
+    let count = say::at(all, a + 2 + states) as usize;
     Place {
-        symbols: at(all, a),
+        symbols: say::at(all, a),
         marks: a + 2,
         states,
         rules: a + 3 + states,
@@ -51,9 +44,9 @@ fn judge(rt: &impl Print, all: &[u16], t: Place, nodes: &[u16]) -> io::Result<()
     let marks = say::part(all, t.marks, t.states);
     let rules = say::part(all, t.rules, t.count);
     match accept::accept(t.symbols, marks, rules, nodes) {
-        Judgement::Accepted => say::text(rt, b"\taccepted"),
-        Judgement::Rejected => say::text(rt, b"\trejected"),
-        Judgement::Refused(f) => say::refusal(rt, f),
+        Ok(true) => say::text(rt, b"\taccepted"),
+        Ok(false) => say::text(rt, b"\trejected"),
+        Err(f) => say::refusal(rt, f),
     }
 }
 
@@ -66,9 +59,9 @@ fn node_height(nodes: &[u16], i: usize, heights: &[u16]) -> u16
     if b == paper::LEAF {
         return 0;
     }
-    let left = at(heights, a as usize);
-    let right = at(heights, b as usize);
-    let most = if left < right { right } else { left };
+    let left = say::at(heights, a as usize);
+    let right = say::at(heights, b as usize);
+    let most = left.max(right);
     if most == paper::LEAF {
         return most;
     }
@@ -147,12 +140,12 @@ fn tell(
         room,
     );
     match answer {
-        Answer::Witness(k) => show(rt, all, sender, receiver, room, k)?,
-        Answer::Included => {
+        Ok(Some(k)) => show(rt, all, sender, receiver, room, k)?,
+        Ok(None) => {
             say::text(rt, b"\tincluded")?;
             say::changed(rt, room)?;
         }
-        Answer::Refused(f) => {
+        Err(f) => {
             say::refusal(rt, f)?;
             say::changed(rt, room)?;
         }
@@ -168,7 +161,7 @@ fn compare(rt: &(impl Files + Print), n: usize) -> io::Result<()> {
     let length = say::load(rt, b'i', n, &mut bytes)?;
     let count = say::numbers(&bytes[..length], &mut all);
     let numbers = say::part(&all, 0, count);
-    let room = at(numbers, 0) as usize;
+    let room = say::at(numbers, 0) as usize;
     let sender = table_at(numbers, 1);
     let receiver = table_at(numbers, sender.rules + sender.count);
     if room <= slice.len() {

@@ -4,9 +4,12 @@
 ghost use Rattle.std.specs.Prelude.{◌≡◌, ◌<◌, ◌≤◌, length, take, true, false};
 ghost use Rattle.std.specs.Io.KnownBytes.{Consumes, IsAtEnd};
 
+use std::fs;
 use std::io::Read;
+use std::rt::Files;
 
 // How many bytes stand at the start of a slice, and whether a read failed behind them.
+// Kept: two values beside each other, since the count holds whether a read failed or not.
 #[derive(Clone, Copy)]
 pub struct Filled {
     pub count: usize,
@@ -22,6 +25,7 @@ pub fn read_full<R: Read>(input: &mut R, bytes: &mut [u8]) -> Filled
     ensures short { result.failed ≡ true → result.count < length bytes.new }
 {
     let mut count = 0;
+    // Kept: a while, since a read gives as many bytes as it likes.
     while count < bytes.len() {
         match input.read(&mut bytes[count..]) {
             Ok(0) => break,
@@ -35,6 +39,16 @@ pub fn read_full<R: Read>(input: &mut R, bytes: &mut [u8]) -> Filled
     Filled {
         count,
         failed: false,
+    }
+}
+
+// Reads a file into the slice, as far as it goes, and answers how many bytes; none where it can't be opened.
+pub fn read_file(rt: &impl Files, path: &str, bytes: &mut [u8]) -> usize
+    ensures { (result ≤ length bytes.new) × (length bytes.new ≡ length bytes.old) }
+{
+    match fs::open(rt, path) {
+        Ok(mut file) => read_full(&mut file, bytes).count,
+        Err(_) => 0,
     }
 }
 

@@ -5,6 +5,7 @@ use mathlib.Core.Logic.{◌⊎◌, inl, inr, by_cases}
 use mathlib.Core.List.{List}
 use native.Mathlib.Decide.{ℕ_discrete, dec_le}
 use native.Mathlib.Omega.{arith}
+use Rattle.std.specs.Prelude.{Some, None}
 use lib.ListN.{length, set, drop, length-set, length-drop}
 use lib.Seq.{get_or-set_same, get_or-set_other, get_or-drop, drop-set-lt, ext_get_or}
 use Rattle.paper.specs.Limits.{at}
@@ -147,10 +148,10 @@ holds_first {n = n} o v {r} x = record {
 }
 
 -- without room nothing is done
-pub built_without : {w : ℕ} {xs : List ℕ} {n : ℕ} {o : List ℕ} → NoIndexRoom (length xs / w) n (length o) → Built w xs n o 0 o
+pub built_without : {w : ℕ} {xs : List ℕ} {n : ℕ} {o : List ℕ} → NoIndexRoom (length xs / w) n (length o) → Built w xs n o None o
 built_without h = record { without = λ k. (refl, refl); with = λ d. absurd (d h) }
 
 -- with room the index stands in the slice
 pub built_with : {w : ℕ} {xs : List ℕ} {n : ℕ} {o : List ℕ} {r : ℕ} {is : List ℕ}
-    → ¬ NoIndexRoom (length xs / w) n (length o) → Holds w xs n o r is → Built w xs n o r is
-built_with d x = record { without = λ k. absurd (d k); with = λ e. x }
+    → ¬ NoIndexRoom (length xs / w) n (length o) → Holds w xs n o r is → Built w xs n o (Some r) is
+built_with {r = r} d x = record { without = λ k. absurd (d k); with = λ e. (r, refl, x) }

@@ -3,6 +3,7 @@ use Prim.Native.Nat.{ℕ, ◌+◌, ◌*◌, ◌/◌, ◌≤◌, ◌<◌, min}
 use mathlib.Core.Path.{refl}
 use mathlib.Core.List.{List}
 use native.Mathlib.Omega.{arith}
+use Rattle.std.specs.Prelude.{Some, None}
 use lib.ListN.{length, get_or-eq_default}
 use borrow.Author.Count.{below_more}
 use Rattle.paper.specs.Limits.{at}
@@ -18,13 +19,13 @@ pub record Searched (w : ℕ) (xs is : List ℕ) (l r k : ℕ) : Type 0 where
   pub from : at is l ≤ k
   pub before : (j : ℕ) → j < k → InList is l j → ¬ JoinOf w xs (at is j) l r
 
-module _ (w : ℕ) (xs is : List ℕ) (l r none : ℕ) where
+module _ (w : ℕ) (xs is : List ℕ) (l r : ℕ) where
   -- the index ends before it says where the list ends
-  pub finds_short : length is ≤ l + 1 → Finds w xs is l r none none
+  pub finds_short : length is ≤ l + 1 → Finds w xs is l r None
   finds_short h = nothing (λ j p. absurd (omega (arith, p.upto, get_or-eq_default {A = ℕ} is 0 {n = l + 1} h)))
 
   -- the index has no list of l
-  pub finds_beyond : at is 0 ≤ l + 1 → Finds w xs is l r none none
+  pub finds_beyond : at is 0 ≤ l + 1 → Finds w xs is l r None
   finds_beyond h = nothing (λ j p. absurd (omega (arith, p.known)))
 
   pub searched_none : Searched w xs is l r (at is l)
@@ -34,11 +35,11 @@ module _ (w : ℕ) (xs is : List ℕ) (l r none : ℕ) where
     pub searched_more : ¬ JoinOf w xs (at is k) l r → Searched w xs is l r (k + 1)
     searched_more d = record { from = omega (arith, s.from); before = below_more _ _ s.before (λ p. d) }
 
-    pub searched_end : min (at is (l + 1)) (length is) ≤ k → Finds w xs is l r none none
+    pub searched_end : min (at is (l + 1)) (length is) ≤ k → Finds w xs is l r None
     searched_end h = nothing (λ j p. s.before j (omega (arith, p.upto, p.inside)) p)
 
     pub searched_found : l + 1 < at is 0 → k < min (at is (l + 1)) (length is) → JoinOf w xs (at is k) l r
-        → Finds w xs is l r none (at xs (at is k * w + 3))
+        → Finds w xs is l r (Some (at xs (at is k * w + 3)))
     searched_found h m (q, row) =
         found (record { known = h; from = s.from; upto = omega arith; inside = omega arith })
         (record { inside = row.inside; kind = row.kind; left = row.left; right = row.right; target = refl }) s.before

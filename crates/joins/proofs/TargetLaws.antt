@@ -5,6 +5,7 @@ use mathlib.Core.Logic.{◌⊎◌, inl, inr, by_cases}
 use mathlib.Core.List.{List}
 use native.Mathlib.Decide.{ℕ_discrete, dec_lt}
 use native.Mathlib.Omega.{arith}
+use Rattle.std.specs.Prelude.{Option, Some, None, unwrap_or}
 use lib.ListN.{length}
 use Rattle.paper.specs.Limits.{at, join_kind}
 use Rattle.table.specs.Rules.{Row, RulesOf, join_rule}
@@ -17,10 +18,10 @@ same_target : {w : ℕ} {xs : List ℕ} {l r i j p q : ℕ}
     → i ≡ j → Row w xs i join_kind l r p → Row w xs j join_kind l r q → p ≡ q
 same_target e x y = sym x.target ∙ rw e y.target
 
-module _ {w : ℕ} {xs is : List ℕ} {l r none : ℕ} where
-  pub target_unique : {p q : ℕ} → Finds w xs is l r none p → Finds w xs is l r none q → p ≡ q
+module _ {w : ℕ} {xs is : List ℕ} {l r : ℕ} where
+  pub target_unique : {p q : Option ℕ} → Finds w xs is l r p → Finds w xs is l r q → p ≡ q
   target_unique (found {k} a b c) (found {k = j} d e f) = by_cases (dec_lt k j) (λ h. absurd (f k h a (_, b)))
-      (λ h. by_cases (dec_lt j k) (λ m. absurd (c j m d (_, e))) (λ m. let z : k ≡ j = omega arith in same_target (ap (at is) z) b e))
+      (λ h. by_cases (dec_lt j k) (λ m. absurd (c j m d (_, e))) (λ m. let z : k ≡ j = omega arith in ap Some (same_target (ap (at is) z) b e)))
   target_unique (found {k} a b c) (nothing d) = absurd (d k a (_, b))
   target_unique (nothing c) (found {k} a b d) = absurd (c k a (_, b))
   target_unique (nothing c) (nothing d) = refl
@@ -40,8 +41,8 @@ module _ {w : ℕ} (positive : 0 < w) {xs : List ℕ} {n : ℕ} {is : List ℕ} 
       (k, record { known = omega (arith, x.first); from = a; upto = b; inside = omega (arith, x.ends) }, c)
 
   -- the first join rule of the two states in the table is found, or there is none
-  pub target_first : {none q : ℕ} → l < n → Finds w xs is l r none q
-      → ((i : ℕ) × FirstJoin w xs l r q i) ⊎ ((q ≡ none) × ((i : ℕ) → ¬ JoinOf w xs i l r))
+  pub target_first : {none : ℕ} {o : Option ℕ} → l < n → Finds w xs is l r o
+      → ((i : ℕ) × FirstJoin w xs l r (unwrap_or o none) i) ⊎ ((unwrap_or o none ≡ none) × ((i : ℕ) → ¬ JoinOf w xs i l r))
   target_first h (found {k} a b c) = inl (at is k, record { row = b; before = before })
     where
       before : (j : ℕ) → j < at is k → ¬ JoinOf w xs j l r
@@ -53,9 +54,9 @@ module _ {w : ℕ} (positive : 0 < w) {xs : List ℕ} {n : ℕ} {is : List ℕ} 
   target_first h (nothing c) = inr (refl, λ i o. let (k, p, e) = place h o in c k p (rw e o))
 
   -- a join rule of the two states is found, if there is one
-  pub target_of : {none q : ℕ} → l < n → Finds w xs is l r none q
-      → RulesOf w xs (join_rule l r q) ⊎ ((q ≡ none) × ((p : ℕ) → ¬ RulesOf w xs (join_rule l r p)))
-  target_of h f = go (target_first h f)
+  pub target_of : {none : ℕ} {o : Option ℕ} → l < n → Finds w xs is l r o
+      → RulesOf w xs (join_rule l r (unwrap_or o none)) ⊎ ((unwrap_or o none ≡ none) × ((p : ℕ) → ¬ RulesOf w xs (join_rule l r p)))
+  target_of {none} h f = go (target_first {none = none} h f)
     where
       go : {none q : ℕ} → ((i : ℕ) × FirstJoin w xs l r q i) ⊎ ((q ≡ none) × ((i : ℕ) → ¬ JoinOf w xs i l r))
           → RulesOf w xs (join_rule l r q) ⊎ ((q ≡ none) × ((p : ℕ) → ¬ RulesOf w xs (join_rule l r p)))
@@ -63,6 +64,6 @@ module _ {w : ℕ} (positive : 0 < w) {xs : List ℕ} {n : ℕ} {is : List ℕ} 
       go (inr (e, d)) = inr (e, λ p (i, y). d i (p, y))
 
   -- a left state that is not below the states has no rule in the index
-  pub target_beyond : {none q : ℕ} → n ≤ l → Finds w xs is l r none q → q ≡ none
+  pub target_beyond : {o : Option ℕ} → n ≤ l → Finds w xs is l r o → o ≡ None
   target_beyond h (found a b c) = absurd (omega (arith, a.known, x.first))
   target_beyond h (nothing c) = refl

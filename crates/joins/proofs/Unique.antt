@@ -6,6 +6,7 @@ use mathlib.Core.List.{List}
 use native.Mathlib.Decide.{dec_le, dec_lt}
 use native.Mathlib.Numerals.{add-one}
 use native.Mathlib.Omega.{arith}
+use Rattle.std.specs.Prelude.{Option, Some}
 use lib.ListN.{length, drop}
 use lib.Seq.{get_or-drop, ext_get_or}
 use Rattle.paper.specs.Limits.{at}
@@ -108,7 +109,12 @@ module _ {w : ℕ} {xs : List ℕ} {n : ℕ} {o : List ℕ} {r s : ℕ} {is js :
           (λ z. same_index x.indexed y.indexed k (omega (arith, x.counts)))
           (λ z. rest_same is o r k x.rest (omega arith) ∙ sym (rest_same js o s k y.rest (omega (arith, count))))
 
-  pub build_unique : Built w xs n o r is → Built w xs n o s js → (r ≡ s) × (is ≡ js)
-  build_unique x y = by_cases (no_room? (length xs / w) n (length o))
-      (λ h. ((x.without h).0 ∙ sym (y.without h).0, (x.without h).1 ∙ sym (y.without h).1))
-      (λ d. index_unique (x.with d) (y.with d))
+pub build_unique : {w : ℕ} {xs : List ℕ} {n : ℕ} {o : List ℕ} {r s : Option ℕ} {is js : List ℕ}
+    → Built w xs n o r is → Built w xs n o s js → (r ≡ s) × (is ≡ js)
+build_unique {w} {xs} {n} {o} x y = by_cases (no_room? (length xs / w) n (length o))
+    (λ h. ((x.without h).0 ∙ sym (y.without h).0, (x.without h).1 ∙ sym (y.without h).1))
+    (λ d.
+    let (k, p, a) = x.with d in
+    let (m, q, b) = y.with d in
+    let (e, f) = index_unique a b in
+    (p ∙ ap Some e ∙ sym q, f))

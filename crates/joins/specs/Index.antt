@@ -1,6 +1,6 @@
 -- The index of a table's join rules by their left states: for each left state the positions of its join rules among all rules, from 0,
 -- rising. First stands where, from the slice's front, each list begins and the last ends.
-use Rattle.std.specs.Prelude.{ℕ, ◌+◌, ◌*◌, ◌/◌, ◌≤◌, ◌<◌, ◌≡◌, ◌⊎◌, List, length, drop}
+use Rattle.std.specs.Prelude.{ℕ, ◌+◌, ◌*◌, ◌/◌, ◌≤◌, ◌<◌, ◌≡◌, ◌⊎◌, List, length, drop, Option, Some, None}
 use Rattle.paper.specs.Limits.{at, join_kind}
 
 -- rule i is a join rule with the left state l
@@ -46,7 +46,7 @@ pub record Holds (w : ℕ) (xs : List ℕ) (n : ℕ) (o : List ℕ) (r : ℕ) (i
   pub within : r ≤ index_size (length xs / w) n
   pub rest : drop r is ≡ drop r o
 
--- what building an index answers, and what the slice o then is: without room 0, and the slice is unchanged
-pub record Built (w : ℕ) (xs : List ℕ) (n : ℕ) (o : List ℕ) (r : ℕ) (is : List ℕ) : Type 0 where
-  pub without : NoIndexRoom (length xs / w) n (length o) → (r ≡ 0) × (is ≡ o)
-  pub with : ¬ NoIndexRoom (length xs / w) n (length o) → Holds w xs n o r is
+-- what building an index answers, and what the slice o then is: without room nothing, and the slice is unchanged
+pub record Built (w : ℕ) (xs : List ℕ) (n : ℕ) (o : List ℕ) (r : Option ℕ) (is : List ℕ) : Type 0 where
+  pub without : NoIndexRoom (length xs / w) n (length o) → (r ≡ None) × (is ≡ o)
+  pub with : ¬ NoIndexRoom (length xs / w) n (length o) → (count : ℕ) × (r ≡ Some count) × Holds w xs n o count is

@@ -2,22 +2,12 @@
 // specs/Index has what an index is, specs/Target what looking up tells, specs/Work what the private functions do.
 #![tactic(auto)]
 
-ghost use Rattle.std.specs.Prelude.{◌≡◌, ◌/◌, min, length};
+ghost use Rattle.std.specs.Prelude.{◌/◌, length};
 ghost use Rattle.paper.specs.Limits.{limits};
 ghost use Rattle.paper.specs.Told.{Tells};
 ghost use Rattle.joins.specs.Index.{NoIndexRoom, Built};
 ghost use Rattle.joins.specs.Target.{JoinOf, Finds};
 ghost use Rattle.joins.specs.Work.{RowRoom, PutRow, ListRoom, PutList};
-
-// The lower of two numbers.
-fn lower(a: usize, b: usize) -> usize
-    ensures { result ≡ min a b }
-{
-    if a < b {
-        return a;
-    }
-    b
-}
 
 // Is there no room for the index of so many rules and states?
 fn lacks_room(rules: usize, states: usize, size: usize) -> bool
@@ -54,33 +44,28 @@ fn put_list(rules: &[u16], left: u16, index: &mut [u16], from: usize) -> usize
     ensures { PutList limits.width rules.now left (length rules.now / limits.width)
         index.old from result index.new }
 {
-    let rows = rules.len() / paper::WIDTH;
     let mut end = from;
-    let mut i = 0;
-    while i < rows {
+    for i in 0..rules.len() / paper::WIDTH {
         end = put_row(rules, i, left, index, end);
-        i += 1;
     }
     end
 }
 
-// Writes the index of the rules for so many states to the front of the lent slice, and tells how many numbers it has; or 0 if there is
-// no room, and then the slice is unchanged. Join rules whose left state is not below the states are left out.
-pub fn build(rules: &[u16], states: usize, index: &mut [u16]) -> usize
+// Writes the index of the rules for so many states to the front of the lent slice, and tells how many numbers it has; if there is no
+// room, the slice is unchanged. Join rules whose left state is not below the states are left out.
+pub fn build(rules: &[u16], states: usize, index: &mut [u16]) -> Option<usize>
     ensures { Built limits.width rules.now states index.old result index.new }
 {
     if lacks_room(rules.len() / paper::WIDTH, states, index.len()) {
-        return 0;
+        return None;
     }
     let mut end = states + 1;
     index[0] = end as u16;
-    let mut left = 0;
-    while left < states {
+    for left in 0..states {
         end = put_list(rules, left as u16, index, end);
-        left += 1;
-        index[left] = end as u16;
+        index[left + 1] = end as u16;
     }
-    end
+    Some(end)
 }
 
 // Is rule i a join rule of these two states? A row that is not whole inside the slice is none.
@@ -100,26 +85,23 @@ fn is_join(rules: &[u16], i: usize, left: u16, right: u16) -> bool
     rules[row + 1] == left
 }
 
-// The target of the first join rule of the two states that the index names, or `none` if it names none. Any numbers may stand in the
-// index.
-pub fn target(rules: &[u16], index: &[u16], left: u16, right: u16, none: u16) -> u16
-    ensures { Finds limits.width rules.now index.now left right none result }
+// The target of the first join rule of the two states that the index names, if it names one. Any numbers may stand in the index.
+pub fn target(rules: &[u16], index: &[u16], left: u16, right: u16) -> Option<u16>
+    ensures { Finds limits.width rules.now index.now left right result }
 {
     let next = left as usize + 1;
     if index.len() <= next {
-        return none;
+        return None;
     }
     if index[0] as usize <= next {
-        return none;
+        return None;
     }
-    let end = lower(index[next] as usize, index.len());
-    let mut k = index[left as usize] as usize;
-    while k < end {
+    let end = (index[next] as usize).min(index.len());
+    for k in index[left as usize] as usize..end {
         let i = index[k] as usize;
         if is_join(rules, i, left, right) {
-            return rules[i * paper::WIDTH + 3];
+            return Some(rules[i * paper::WIDTH + 3]);
         }
-        k += 1;
     }
-    none
+    None
 }

@@ -10,30 +10,35 @@ use borrow.Author.Tests.{eq-eqb, ne_eqb, eqb-true}
 use Rattle.lines.specs.Number.{most_number, digit, digits, decimal}
 use Rattle.lines.specs.Lines.{tab, lf, lines}
 use Rattle.lines.specs.Fields.{field, ends, fields, entry, last, letters}
-use Rattle.lines.specs.declared.Number.{Number}
-use Rattle.lines.specs.declared.Number.TheVariants.{Value, Bad}
-use Rattle.lines.specs.declared.Fields.{Fields}
-use Rattle.lines.specs.declared.Fields.TheVariants.{Got, Wrong}
+use Rattle.lines.specs.Number.{Number}
+use Rattle.std.specs.Prelude.{Ok, Err}
+use Rattle.lines.specs.Fields.{Fields}
 use Rattle.lines.proofs.Tests.{split}
 use Rattle.lines.proofs.NumberLaws.{read_written, number_shown, not_both}
 use Rattle.lines.proofs.LinesLaws.{NoLF, nolf_append, lines_front}
 use Rattle.lines.proofs.Places.{here, beyond, within, from}
 
-not_got : {i a b c : ℕ} → Wrong i ≡ Got a b c → ⊥
+not_got : {i a b c : ℕ} → ◌≡◌ {A = Fields} (Err i) (Ok (a, b, c)) → ⊥
 not_got e = let z : ◌≡◌ {A = ℕ} 0 1 = cc in omega arith
+
+-- the numbers of a line are known one by one
+same_numbers : {a b c a' b' c' : ℕ} → ◌≡◌ {A = Fields} (Ok (a, b, c)) (Ok (a', b', c')) → (a ≡ a') × (b ≡ b') × (c ≡ c')
+same_numbers {a} {b} {c} {a'} {b'} {c'} e =
+    let p : ◌≡◌ {A = ℕ × ℕ × ℕ} (a, b, c) (a', b', c') = cc in
+    (ap (λ (x : ℕ × ℕ × ℕ). x.0) p, ap (λ (x : ℕ × ℕ × ℕ). x.1) p, ap (λ (x : ℕ × ℕ × ℕ). x.2) p)
 
 -- a field, both ways
 module _ (x : List ℕ) (i : ℕ) where
   pub field_read : (a : ℕ) {b : ℕ} {l : List ℕ} → a ≤ most_number → 10 ≤ digit b → drop i x ≡ entry a ++ (b ∷ l) →
-      (field x i ≡ Value a (i + length (entry a))) × (drop (i + length (entry a)) x ≡ b ∷ l)
+      (field x i ≡ Ok (a, (i + length (entry a)))) × (drop (i + length (entry a)) x ≡ b ∷ l)
   unfolding field entry
   field_read a {b} {l} h g e =
       let m = here x i e in (
-        rw (m.0, m.1, read_written a (i + 1) b l h g) (ap (Value a) (omega arith)),
+        rw (m.0, m.1, read_written a (i + 1) b l h g) (ap (λ j. Ok (a, j)) (omega arith)),
         beyond x i (tab ∷ decimal a) e,
       )
 
-  pub field_shown : {a j : ℕ} → field x i ≡ Value a j → (a ≤ most_number) × (drop i x ≡ entry a ++ drop j x)
+  pub field_shown : {a j : ℕ} → field x i ≡ Ok (a, j) → (a ≤ most_number) × (drop i x ≡ entry a ++ drop j x)
   unfolding field entry
   field_shown {a} {j} e =
       split (eqb (get_or x i 0) tab)
@@ -50,7 +55,7 @@ module _ (x : List ℕ) (i : ℕ) where
       let n : length x ≡ i + 1 = omega (arith, length-drop i x, ap length e) in
       rw (m.0, eq-eqb (length x) (i + 1) n)
 
-  pub ends_shown : {f : Fields} {a b c : ℕ} → ends x i f ≡ Got a b c → (f ≡ Got a b c) × (drop i x ≡ lf ∷ [])
+  pub ends_shown : {f : Fields} {a b c : ℕ} → ends x i f ≡ Ok (a, b, c) → (f ≡ Ok (a, b, c)) × (drop i x ≡ lf ∷ [])
   unfolding ends
   ends_shown {f} {a} {b} {c} e =
       split (eqb (get_or x i 0) lf)
@@ -73,7 +78,7 @@ unfolding digit
 lf_ends = omega arith
 
 pub fields_read : (n a b c : ℕ) (x : List ℕ) → a ≤ most_number → b ≤ most_number → c ≤ most_number →
-    drop 1 x ≡ entry a ++ (entry b ++ last n c) → fields n x ≡ cond (eqb n 3) (Got a b c) (Got a b 0)
+    drop 1 x ≡ entry a ++ (entry b ++ last n c) → fields n x ≡ cond (eqb n 3) (Ok (a, b, c)) (Ok (a, b, 0))
 unfolding fields entry last
 fields_read n a b c x ha hb hc e =
     split (eqb n 3)
@@ -81,22 +86,22 @@ fields_read n a b c x ha hb hc e =
     let m₁ = field_read x 1 a ha tab_ends e in
     let m₂ = field_read x (1 + length (entry a)) b hb tab_ends (m₁.1 ∙ ap (λ y. entry b ++ y) (rw t)) in
     let m₃ = field_read x (1 + length (entry a) + length (entry b)) c hc lf_ends m₂.1 in
-    rw (m₁.0, m₂.0, t, m₃.0, ends_read x (1 + length (entry a) + length (entry b) + length (entry c)) (Got a b c) m₃.1))
+    rw (m₁.0, m₂.0, t, m₃.0, ends_read x (1 + length (entry a) + length (entry b) + length (entry c)) (Ok (a, b, c)) m₃.1))
     (λ t.
     let m₁ = field_read x 1 a ha tab_ends e in
     let m₂ = field_read x (1 + length (entry a)) b hb lf_ends (m₁.1 ∙ ap (λ y. entry b ++ y) (rw t)) in
-    rw (m₁.0, m₂.0, t, ends_read x (1 + length (entry a) + length (entry b)) (Got a b 0) m₂.1))
+    rw (m₁.0, m₂.0, t, ends_read x (1 + length (entry a) + length (entry b)) (Ok (a, b, 0)) m₂.1))
 
-pub numbers : (v : Number) {P : Type 0} → ((a i : ℕ) → v ≡ Value a i → P) → ((i : ℕ) → v ≡ Bad i → P) → P
-numbers (Value a i) f g = f a i refl
-numbers (Bad i) f g = g i refl
+pub numbers : (v : Number) {P : Type 0} → ((a i : ℕ) → v ≡ Ok (a, i) → P) → ((i : ℕ) → v ≡ Err i → P) → P
+numbers (Ok (a, i)) f g = f a i refl
+numbers (Err i) f g = g i refl
 
 -- numbers in range that make the line
 abbrev Behind : ℕ → List ℕ → ℕ → ℕ → ℕ → Type 0
 Behind n x a b c =
     (a ≤ most_number) × (b ≤ most_number) × (c ≤ most_number) × ((n ≡ 3 → ⊥) → c ≡ 0) × (drop 1 x ≡ entry a ++ (entry b ++ last n c))
 
-fields_shown : (n a b c : ℕ) (x : List ℕ) → fields n x ≡ Got a b c → Behind n x a b c
+fields_shown : (n a b c : ℕ) (x : List ℕ) → fields n x ≡ Ok (a, b, c) → Behind n x a b c
 unfolding fields last
 fields_shown n a b c x e =
     numbers (field x 1)
@@ -105,10 +110,10 @@ fields_shown n a b c x e =
     (λ t. numbers (field x j)
     (λ c' k r.
     let m = ends_shown x k (rw (p, q, t, r) at e) in
-    let f : Got a' b' c' ≡ Got a b c = m.0 in
-    let ea : a' ≡ a = cc in
-    let eb : b' ≡ b = cc in
-    let ec : c' ≡ c = cc in
+    let f = same_numbers m.0 in
+    let ea : a' ≡ a = f.0 in
+    let eb : b' ≡ b = f.1 in
+    let ec : c' ≡ c = f.2 in
     let u = field_shown x 1 p in
     let v = field_shown x i q in
     let w = field_shown x j r in (
@@ -121,10 +126,10 @@ fields_shown n a b c x e =
     (λ k r. absurd (not_got (rw (p, q, t, r) at e))))
     (λ t.
     let m = ends_shown x j (rw (p, q, t) at e) in
-    let f : Got a' b' 0 ≡ Got a b c = m.0 in
-    let ea : a' ≡ a = cc in
-    let eb : b' ≡ b = cc in
-    let ec : 0 ≡ c = cc in
+    let f = same_numbers m.0 in
+    let ea : a' ≡ a = f.0 in
+    let eb : b' ≡ b = f.1 in
+    let ec : 0 ≡ c = f.2 in
     let u = field_shown x 1 p in
     let v = field_shown x i q in
     (omega (arith, u.0), omega (arith, v.0), omega arith, (λ h. sym ec), u.1 ∙ rw (t, v.1, m.1, ea, eb))))
@@ -142,14 +147,14 @@ letters_first n a b c (t ∷ x) e = ap (λ y. t ∷ y) e
 
 -- both ways, for a whole line
 pub letters_read : (t n a b c : ℕ) → a ≤ most_number → b ≤ most_number → c ≤ most_number →
-    fields n (letters t n a b c) ≡ cond (eqb n 3) (Got a b c) (Got a b 0)
+    fields n (letters t n a b c) ≡ cond (eqb n 3) (Ok (a, b, c)) (Ok (a, b, 0))
 unfolding letters
 letters_read t n a b c ha hb hc = fields_read n a b c (letters t n a b c) ha hb hc refl
 
-pub letters_three : (t a b c : ℕ) → a ≤ most_number → b ≤ most_number → c ≤ most_number → fields 3 (letters t 3 a b c) ≡ Got a b c
+pub letters_three : (t a b c : ℕ) → a ≤ most_number → b ≤ most_number → c ≤ most_number → fields 3 (letters t 3 a b c) ≡ Ok (a, b, c)
 letters_three t a b c ha hb hc = letters_read t 3 a b c ha hb hc
 
-pub letters_two : (t a b c : ℕ) → a ≤ most_number → b ≤ most_number → c ≤ most_number → fields 2 (letters t 2 a b c) ≡ Got a b 0
+pub letters_two : (t a b c : ℕ) → a ≤ most_number → b ≤ most_number → c ≤ most_number → fields 2 (letters t 2 a b c) ≡ Ok (a, b, 0)
 letters_two t a b c ha hb hc = letters_read t 2 a b c ha hb hc
 
 -- what is known of the line x where its n numbers are a, b and c
@@ -160,7 +165,7 @@ pub record Shown (n : ℕ) (x : List ℕ) (a b c : ℕ) : Type 0 where
   pub none : (n ≡ 3 → ⊥) → c ≡ 0
   pub line : x ≡ letters (get_or x 0 0) n a b c
 
-pub letters_shown : (n a b c : ℕ) (x : List ℕ) → fields n x ≡ Got a b c → Shown n x a b c
+pub letters_shown : (n a b c : ℕ) (x : List ℕ) → fields n x ≡ Ok (a, b, c) → Shown n x a b c
 letters_shown n a b c x e =
     let m = fields_shown n a b c x e in
     record { first = m.0; second = m.1; third = m.2; none = m.3; line = letters_first n a b c x m.4 }

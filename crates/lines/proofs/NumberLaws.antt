@@ -7,8 +7,8 @@ use lib.Dec.{ltb, leb, eqb}
 use lib.ListN.{length, drop, length-append}
 use lib.Seq.{drop-drop}
 use borrow.Author.Tests.{lt-ltb, le-ltb, le-leb, ne_eqb, ltb-true, ltb-false, leb-true, eqb-false}
-use Rattle.lines.specs.Number.{most_number, digit, more, number, digits, decimal}
-use Rattle.lines.specs.declared.Number.TheVariants.{Value, Bad}
+use Rattle.lines.specs.Number.{Number, most_number, digit, more, number, digits, decimal}
+use Rattle.std.specs.Prelude.{Ok, Err}
 use Rattle.lines.proofs.Tests.{split}
 
 -- a digit and its byte
@@ -54,7 +54,7 @@ unfolding bound decimal
 read_decimal n i l h = read_digits 19 n i l (omega arith) h
 
 -- ... where no digit follows: the number
-pub read_written : (n i b : ℕ) (l : List ℕ) → n ≤ most_number → 10 ≤ digit b → number i (decimal n ++ (b ∷ l)) ≡ Value n (i + length (decimal n))
+pub read_written : (n i b : ℕ) (l : List ℕ) → n ≤ most_number → 10 ≤ digit b → number i (decimal n ++ (b ∷ l)) ≡ Ok (n, (i + length (decimal n)))
 unfolding more
 read_written n i b l h g = rw (read_decimal n i (b ∷ l) h, le-ltb (digit b) 10 g)
 
@@ -72,21 +72,28 @@ decimal_more v d z h g =
     let r : (v * 10 + d) % 10 ≡ d = omega arith in
     rw (le-ltb (v * 10 + d) 10 (omega arith), q, r, ← digits_more 18 v (omega arith))
 
-pub not_both : {i w j : ℕ} → Bad i ≡ Value w j → ⊥
+pub not_both : {i w j : ℕ} → ◌≡◌ {A = Number} (Err i) (Ok (w, j)) → ⊥
 not_both e = let z : ◌≡◌ {A = ℕ} 0 1 = cc in omega arith
+
+-- a number that is read is known by its value and its end
+pub same_value : {v i w j : ℕ} → ◌≡◌ {A = Number} (Ok (v, i)) (Ok (w, j)) → (v ≡ w) × (i ≡ j)
+same_value {v} {i} {w} {j} e =
+    let p : ◌≡◌ {A = ℕ × ℕ} (v, i) (w, j) = cc in
+    (ap (λ (x : ℕ × ℕ). x.0) p, ap (λ (x : ℕ × ℕ). x.1) p)
 
 -- writing what was read: the bytes up to where the number ends
 abbrev Written : ℕ → ℕ → ℕ → ℕ → List ℕ → Type 0
 Written v i w j l = (i ≤ j) × (w ≤ most_number) × (decimal v ++ l ≡ decimal w ++ drop (j - i) l)
 
-more_ends : {v i w j : ℕ} (l : List ℕ) → v ≤ most_number → Value v i ≡ Value w j → Written v i w j l
+more_ends : {v i w j : ℕ} (l : List ℕ) → v ≤ most_number → ◌≡◌ {A = Number} (Ok (v, i)) (Ok (w, j)) → Written v i w j l
 more_ends {v} {i} {w} {j} l h e =
-    let p : v ≡ w = cc in
-    let q : i ≡ j = cc in
+    let m = same_value e in
+    let p : v ≡ w = m.0 in
+    let q : i ≡ j = m.1 in
     let z : j - i ≡ 0 = omega arith in
     (omega arith, omega arith, rw (z, p))
 
-more_written : (v i w j : ℕ) (l : List ℕ) → v ≤ most_number → more v i l ≡ Value w j → Written v i w j l
+more_written : (v i w j : ℕ) (l : List ℕ) → v ≤ most_number → more v i l ≡ Ok (w, j) → Written v i w j l
 unfolding more
 more_written v i w j [] h e = more_ends [] h e
 more_written v i w j (b ∷ l) h e =
@@ -113,7 +120,7 @@ pub decimal_one : (d : ℕ) → d < 10 → decimal d ≡ (d + 48) ∷ []
 unfolding decimal digits
 decimal_one d h = rw (lt-ltb d 10 h)
 
-pub number_written : (i w j : ℕ) (l : List ℕ) → number i l ≡ Value w j → (i ≤ j) × (w ≤ most_number) × (l ≡ decimal w ++ drop (j - i) l)
+pub number_written : (i w j : ℕ) (l : List ℕ) → number i l ≡ Ok (w, j) → (i ≤ j) × (w ≤ most_number) × (l ≡ decimal w ++ drop (j - i) l)
 unfolding number
 number_written i w j [] e = absurd (not_both e)
 number_written i w j (b ∷ l) e =
@@ -129,7 +136,7 @@ number_written i w j (b ∷ l) e =
     (λ t. absurd (not_both (rw t at e)))
 
 -- the same at a place of a list
-pub number_shown : (s : List ℕ) (i w j : ℕ) → number i (drop i s) ≡ Value w j → (i ≤ j) × (w ≤ most_number) × (drop i s ≡ decimal w ++ drop j s)
+pub number_shown : (s : List ℕ) (i w j : ℕ) → number i (drop i s) ≡ Ok (w, j) → (i ≤ j) × (w ≤ most_number) × (drop i s ≡ decimal w ++ drop j s)
 number_shown s i w j e =
     let m = number_written i w j (drop i s) e in
     let q : i + (j - i) ≡ j = omega (arith, m.0) in

@@ -9,10 +9,9 @@ use borrow.Author.Tests.{eqb-true}
 use Rattle.lines.specs.Number.{most_number, digit, more, number, decimal}
 use Rattle.lines.specs.Lines.{tab, lf}
 use Rattle.lines.specs.Fields.{field, behind, ends, fields}
-use Rattle.lines.specs.declared.Number.{Number}
-use Rattle.lines.specs.declared.Number.TheVariants.{Value, Bad}
-use Rattle.lines.specs.declared.Fields.{Fields}
-use Rattle.lines.specs.declared.Fields.TheVariants.{Got, Wrong}
+use Rattle.lines.specs.Number.{Number}
+use Rattle.std.specs.Prelude.{Ok, Err}
+use Rattle.lines.specs.Fields.{Fields}
 use Rattle.lines.proofs.Tests.{split}
 use Rattle.lines.proofs.Places.{within}
 use Rattle.lines.proofs.NumberLaws.{number_shown, decimal_some}
@@ -20,8 +19,8 @@ use Rattle.lines.proofs.FieldLaws.{numbers}
 
 -- where a number's reading stops, found or not
 place : Number → ℕ
-place (Value a i) = i
-place (Bad i) = i
+place (Ok (a, i)) = i
+place (Err i) = i
 
 more_place : (v i : ℕ) (l : List ℕ) → place (more v i l) ≤ i + length l
 unfolding place more
@@ -54,7 +53,7 @@ field_place x i h =
 
 -- a number ends behind its digits and within the text, and a wrong byte stands within it or just behind
 module _ (s : List ℕ) (at : ℕ) where
-  pub number_ends : {v j : ℕ} → number at (drop at s) ≡ Value v j → (j ≡ at + length (decimal v)) × (j ≤ length s)
+  pub number_ends : {v j : ℕ} → number at (drop at s) ≡ Ok (v, j) → (j ≡ at + length (decimal v)) × (j ≤ length s)
   unfolding place
   number_ends {v} {j} e =
       let m = number_shown s at v j e in
@@ -65,16 +64,16 @@ module _ (s : List ℕ) (at : ℕ) where
         omega (arith, l, p, q, m.0, length-drop at s, length-drop j s, decimal_some v),
       )
 
-  pub number_within : {i : ℕ} → at ≤ length s → number at (drop at s) ≡ Bad i → i ≤ length s
+  pub number_within : {i : ℕ} → at ≤ length s → number at (drop at s) ≡ Err i → i ≤ length s
   unfolding place
   number_within {i} h e = omega (arith, number_place at (drop at s), ap place e, length-drop at s)
 
 -- a wrong byte
 abbrev Near : ℕ → Fields → Type 0
-Near n (Got a b c) = Unit
-Near n (Wrong i) = i ≤ n
+Near n (Ok (a, b, c)) = Unit
+Near n (Err i) = i ≤ n
 
-ends_near : (x : List ℕ) (i a b c : ℕ) → i ≤ length x → Near (length x) (ends x i (Got a b c))
+ends_near : (x : List ℕ) (i a b c : ℕ) → i ≤ length x → Near (length x) (ends x i (Ok (a, b, c)))
 unfolding ends
 ends_near x i a b c h =
     split (eqb (get_or x i 0) lf)
@@ -101,5 +100,5 @@ fields_near n x h =
     (λ t. rw t (behind_near x j _ hj (λ c k hk. ends_near x k a b c hk)))
     (λ t. rw t (ends_near x j a b 0 hj))))
 
-pub wrong_within : (n i : ℕ) (x : List ℕ) → 1 ≤ length x → fields n x ≡ Wrong i → i ≤ length x
+pub wrong_within : (n i : ℕ) (x : List ℕ) → 1 ≤ length x → fields n x ≡ Err i → i ≤ length x
 wrong_within n i x h e = rw e at (fields_near n x h)

@@ -1,7 +1,9 @@
 -- Decimal numbers 0 to 65,535 without leading zeros: what reading one finds, and how one is written.
-use Rattle.std.specs.Prelude.{ℕ, zero, suc, ◌+◌, ◌-◌, ◌*◌, ◌/◌, ◌%◌, List, [], ◌∷◌, ◌++◌, cond, ltb, leb, eqb}
-use Rattle.lines.specs.declared.Number.{Number}
-use Rattle.lines.specs.declared.Number.TheVariants.{Value, Bad}
+use Rattle.std.specs.Prelude.{ℕ, zero, suc, ◌+◌, ◌-◌, ◌*◌, ◌/◌, ◌%◌, List, [], ◌∷◌, ◌++◌, cond, ltb, leb, eqb, Result, Ok, Err}
+
+-- what stands where a number should: its value and where it ends, or the first byte that is wrong
+abbrev pub Number : Type 0
+Number = Result (ℕ × ℕ) ℕ
 
 -- the largest number
 abbrev pub most_number : ℕ
@@ -13,16 +15,16 @@ digit b = cond (ltb b 48) 10 (cond (ltb 57 b) 10 (b - 48))
 
 -- behind digits that make v, the next byte being at i
 unfoldable pub more : ℕ → ℕ → List ℕ → Number
-more v i [] = Value v i
+more v i [] = Ok (v, i)
 more v i (b ∷ l) =
     cond (ltb (digit b) 10)
-    (cond (eqb v 0) (Bad i) (cond (leb (v * 10 + digit b) most_number) (more (v * 10 + digit b) (i + 1) l) (Bad i)))
-    (Value v i)
+    (cond (eqb v 0) (Err i) (cond (leb (v * 10 + digit b) most_number) (more (v * 10 + digit b) (i + 1) l) (Err i)))
+    (Ok (v, i))
 
 -- what stands in front of l, whose first byte is at i: a number and where it ends, or the first byte that is wrong
 unfoldable pub number : ℕ → List ℕ → Number
-number i [] = Bad i
-number i (b ∷ l) = cond (ltb (digit b) 10) (more (digit b) (i + 1) l) (Bad i)
+number i [] = Err i
+number i (b ∷ l) = cond (ltb (digit b) 10) (more (digit b) (i + 1) l) (Err i)
 
 -- the digits of n, at most k + 1 of them
 unfoldable pub digits : ℕ → ℕ → List ℕ

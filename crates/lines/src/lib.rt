@@ -3,42 +3,31 @@
 // empty part. specs/ has how numbers and lines are written, and proofs/ that reading and writing are inverse to each other.
 #![tactic(auto)]
 
-ghost use Rattle.std.specs.Prelude.{◌≡◌, drop};
+ghost use Rattle.std.specs.Prelude.{◌≡◌, ◌<◌, drop, SomeIff};
 ghost use Rattle.lines.specs.Number.{digit, number};
 ghost use Rattle.lines.specs.Lines.{line_end_of, line_at, Starts};
 ghost use Rattle.lines.specs.Fields.{field, ends, fields};
 
 const MOST_NUMBER: u32 = 65535;
 
-pub const TAB: u8 = 9;
+pub const TAB: u8 = b'\t';
 
-pub const LF: u8 = 10;
+pub const LF: u8 = b'\n';
 
 // What stands where a number should: its value and where it ends, or the first byte that is wrong.
-#[derive(Drop)]
-pub enum Number {
-    Value(u16, usize),
-    Bad(usize),
-}
+pub type Number = Result<(u16, usize), usize>;
 
 // The numbers of a line, the third being 0 where there are two; or the first byte that is wrong.
-#[derive(Drop)]
-pub enum Fields {
-    Got(u16, u16, u16),
-    Wrong(usize),
-}
+pub type Fields = Result<(u16, u16, u16), usize>;
 
-// The digit that a byte stands for, or 10.
-fn digit_of(b: u8) -> u32
-    ensures { result ≡ digit b }
+// The digit that a byte stands for, if it stands for one.
+fn digit_of(b: u8) -> Option<u32>
+    ensures { SomeIff result (digit b < 10) (digit b) }
 {
-    if b < 48 {
-        return 10;
+    if b.is_ascii_digit() {
+        return Some((b - b'0') as u32);
     }
-    if 57 < b {
-        return 10;
-    }
-    (b - 48) as u32
+    None
 }
 
 // The number that starts at `at`.
@@ -46,29 +35,26 @@ pub fn read_number(s: &[u8], at: usize) -> Number
     ensures { result ≡ number at (drop at s.now) }
 {
     if s.len() <= at {
-        return Number::Bad(at);
+        return Err(at);
     }
-    let mut v = digit_of(s[at]);
-    if 10 <= v {
-        return Number::Bad(at);
-    }
-    let mut i = at + 1;
-    while i < s.len() {
-        let d = digit_of(s[i]);
-        if 10 <= d {
-            return Number::Value(v as u16, i);
-        }
+    let Some(first) = digit_of(s[at]) else {
+        return Err(at);
+    };
+    let mut v = first;
+    for i in at + 1..s.len() {
+        let Some(d) = digit_of(s[i]) else {
+            return Ok((v as u16, i));
+        };
         if v == 0 {
-            return Number::Bad(i);
+            return Err(i);
         }
         let w = v * 10 + d;
         if MOST_NUMBER < w {
-            return Number::Bad(i);
+            return Err(i);
         }
         v = w;
-        i += 1;
     }
-    Number::Value(v as u16, i)
+    Ok((v as u16, s.len()))
 }
 
 // A tab at `at` and the number behind it.
@@ -76,12 +62,12 @@ pub fn read_field(x: &[u8], at: usize) -> Number
     ensures { result ≡ field x.now at }
 {
     if x.len() <= at {
-        return Number::Bad(at);
+        return Err(at);
     }
     if x[at] == TAB {
         read_number(x, at + 1)
     } else {
-        Number::Bad(at)
+        Err(at)
     }
 }
 
@@ -90,51 +76,40 @@ fn read_end(x: &[u8], at: usize, f: Fields) -> Fields
     ensures { result ≡ ends x.now at f }
 {
     if x.len() <= at {
-        return Fields::Wrong(at);
+        return Err(at);
     }
     if x[at] != LF {
-        return Fields::Wrong(at);
+        return Err(at);
     }
     if x.len() == at + 1 {
         return f;
     }
-    Fields::Wrong(at + 1)
+    Err(at + 1)
 }
 
 // The n numbers, 3 or else 2, of the line x, whose first byte is not looked at.
 pub fn read_fields(x: &[u8], n: usize) -> Fields
     ensures { result ≡ fields n x.now }
 {
-    match read_field(x, 1) {
-        Number::Bad(i) => Fields::Wrong(i),
-        Number::Value(a, i) => match read_field(x, i) {
-            Number::Bad(j) => Fields::Wrong(j),
-            Number::Value(b, j) => {
-                if n == 3 {
-                    match read_field(x, j) {
-                        Number::Bad(k) => Fields::Wrong(k),
-                        Number::Value(c, k) => read_end(x, k, Fields::Got(a, b, c)),
-                    }
-                } else {
-                    read_end(x, j, Fields::Got(a, b, 0))
-                }
-            }
-        },
+    let (a, i) = read_field(x, 1)?;
+    let (b, j) = read_field(x, i)?;
+    if n != 3 {
+        return read_end(x, j, Ok((a, b, 0)));
     }
+    let (c, k) = read_field(x, j)?;
+    read_end(x, k, Ok((a, b, c)))
 }
 
 // Where the line that starts at `at` ends: behind its LF, or where the text ends; `at` itself behind the end.
 pub fn line_end(s: &[u8], at: usize) -> usize
     ensures { result ≡ line_end_of at (drop at s.now) }
 {
-    let mut i = at;
-    while i < s.len() {
+    for i in at..s.len() {
         if s[i] == LF {
             return i + 1;
         }
-        i += 1;
     }
-    i
+    at.max(s.len())
 }
 
 // Where the line k starts: behind the k lines before it, or where the text ends.
@@ -142,13 +117,11 @@ fn line_start(s: &[u8], k: usize) -> usize
     ensures { Starts s.now k result }
 {
     let mut at = 0;
-    let mut i = 0;
-    while i < k {
+    for i in 0..k {
         if s.len() <= at {
             return at;
         }
         at = line_end(s, at);
-        i += 1;
     }
     at
 }

@@ -2,8 +2,6 @@
 // rule text. The file stdout beside src/ has what each must be told, and docs/CASES.md what each case is.
 #![tactic(auto)]
 
-use model_table::Compiled;
-use rule_write::Writing;
 use std::io;
 use std::rt::Files;
 
@@ -28,8 +26,8 @@ fn show(rt: &impl Print, symbols: u16, marks: &[u16], rules: &[u16]) -> io::Resu
     say::checked(rt, table::check(symbols, marks, rules))?;
     say::text(rt, b"\n")?;
     match rule_write::write_text(symbols, marks, rules, &mut out) {
-        Writing::Refused(f) => say::refusal(rt, f),
-        Writing::Wrote(n) => {
+        Err(f) => say::refusal(rt, f),
+        Ok(n) => {
             if n <= out.len() {
                 say::text(rt, &out[..n])?;
             }
@@ -46,13 +44,16 @@ fn compile_into(
     rules: &mut [u16],
 ) -> io::Result<()> {
     match model_table::compile(text, marks, rules) {
-        Compiled::Refused(f) => say::refused(rt, f, marks, rules),
-        Compiled::Table(symbols, states, count) => {
+        Err(f) => say::refused(rt, f, marks, rules),
+        Ok(t) => {
             say::text(rt, b"\ttable")?;
-            say::field(rt, symbols as usize)?;
-            say::field(rt, states)?;
-            say::field(rt, count)?;
-            show(rt, symbols, say::part(marks, 0, states), rows(rules, count))
+            say::sizes(rt, t)?;
+            show(
+                rt,
+                t.symbols,
+                say::part(marks, 0, t.states),
+                rows(rules, t.rules),
+            )
         }
     }
 }

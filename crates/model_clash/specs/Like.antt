@@ -1,9 +1,7 @@
 -- Two like places: in slices by state number, B has the symbol that each place bears, and N a flag where the place y can come next after
 -- the state q, in rows of one stride.
-use Rattle.std.specs.Prelude.{ℕ, ◌+◌, ◌*◌, ◌≤◌, ◌<◌, ◌≡◌, ◌≢◌, List, length}
+use Rattle.std.specs.Prelude.{ℕ, ◌+◌, ◌*◌, ◌≤◌, ◌<◌, ◌≡◌, ◌≢◌, List, length, Option, Some, None}
 use Rattle.paper.specs.Limits.{at}
-use Rattle.model_clash.specs.declared.Found.{Found}
-use Rattle.model_clash.specs.declared.Found.TheVariants.{Pair, Nothing}
 
 -- y and z bear one symbol and can come next after q
 pub record Like (stride : ℕ) (B N : List ℕ) (q y z : ℕ) : Type 0 where
@@ -21,9 +19,9 @@ pub record Two (stride : ℕ) (B N : List ℕ) (q from to z y : ℕ) : Type 0 wh
   pub like : Like stride B N q y z
 
 -- what the search finds after q
-pub record Finds (stride : ℕ) (B N : List ℕ) (q from to : ℕ) (r : Found) : Type 0 where
-  pub pair : {z y : ℕ} → r ≡ Pair z y → Two stride B N q from to z y
-  pub nothing : r ≡ Nothing → (z y : ℕ) → ¬ Two stride B N q from to z y
+pub record Finds (stride : ℕ) (B N : List ℕ) (q from to : ℕ) (r : Option (ℕ × ℕ)) : Type 0 where
+  pub pair : {z y : ℕ} → r ≡ Some (z, y) → Two stride B N q from to z y
+  pub nothing : r ≡ None → (z y : ℕ) → ¬ Two stride B N q from to z y
 
 -- after some state there are two like places
 pub record Clash (stride : ℕ) (B N : List ℕ) (from to : ℕ) : Type 0 where

@@ -7,13 +7,6 @@ ghost use Rattle.paper.specs.Limits.{limits, at};
 ghost use Rattle.paper.specs.Told.{Tells};
 ghost use Rattle.model_clash.specs.Like.{Like, Finds, Clash};
 
-// Two like places, the earlier one first; or there are none.
-#[derive(Drop)]
-enum Found {
-    Pair(usize, usize),
-    Nothing,
-}
-
 // Can the place y come next after the state q?
 fn comes_next(next: &[u16], q: usize, y: usize) -> bool
     ensures { Tells result (at next.now (q * limits.states + y) ≢ 0) }
@@ -48,15 +41,21 @@ fn are_alike(bears: &[u16], next: &[u16], q: usize, y: usize, z: usize) -> bool
     false
 }
 
-// Two like places, the first that are met, among those from `from` on up to `to` that can come next after the state q.
-fn like_places(bears: &[u16], next: &[u16], q: usize, from: usize, to: usize) -> Found
+// Two like places, the earlier one first, if there are any among those from `from` on up to `to` that can come next after the state q.
+fn like_places(
+    bears: &[u16],
+    next: &[u16],
+    q: usize,
+    from: usize,
+    to: usize,
+) -> Option<(usize, usize)>
     ensures { Finds limits.states bears.now next.now q from to result }
 {
-    let mut found = Found::Nothing;
+    let mut found = None;
     'search: for y in from..to {
         for z in from..y {
             if are_alike(bears, next, q, y, z) {
-                found = Found::Pair(z, y);
+                found = Some((z, y));
                 break 'search;
             }
         }
@@ -68,13 +67,10 @@ fn like_places(bears: &[u16], next: &[u16], q: usize, from: usize, to: usize) ->
 pub fn clashes(bears: &[u16], next: &[u16], from: usize, to: usize) -> bool
     ensures { Tells result (Clash limits.states bears.now next.now from to) }
 {
-    let mut q = from;
-    while q < to {
-        match like_places(bears, next, q, from, to) {
-            Found::Pair(_, _) => return true,
-            Found::Nothing => {}
+    for q in from..to {
+        if like_places(bears, next, q, from, to).is_some() {
+            return true;
         }
-        q += 1;
     }
     false
 }

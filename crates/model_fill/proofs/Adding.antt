@@ -12,13 +12,12 @@ use Rattle.rows.specs.Fill.{Filled}
 use Rattle.model.specs.Model.{Model, places}
 use Rattle.postfix.specs.Field.{model_in}
 use Rattle.model_line.specs.Line.{says, content, split_of, token_field}
-use Rattle.model_line.specs.declared.Cut.TheVariants.{Field, Misshapen}
+use Rattle.std.specs.Prelude as std
+use Rattle.std.specs.Prelude.{Some, None}
+use Rattle.std.proofs.lemmas.Option.{none-some, same_Some, some_pair_parts}
 use Rattle.model_line.proofs.SplitLaws.{not_field}
 use Rattle.model_line.proofs.Known.{says_content}
 use Rattle.model_sets.specs.Sets.{Room, room?, answer_of, Fills}
-use Rattle.model_sets.specs.declared.Sets.{Sets}
-use Rattle.model_sets.specs.declared.Sets.TheVariants.{Places, Unfit}
-use Rattle.model_sets.proofs.Filling.{places_unfit}
 use Rattle.compiled.specs.States.{State, insides, the_state_at}
 use Rattle.model_fill.specs.Kept.{belongs_to, Long, Kept}
 use Rattle.model_fill.specs.Work.{Adds}
@@ -26,31 +25,28 @@ use Rattle.model_fill.proofs.Lending.{Behind, lent_behind, lent_at, lent_length}
 use Rattle.model_fill.proofs.KeptLaws.{kept_more}
 
 answer_places : (stride : ℕ) (o : Option Model) (m : Model) (b e n : ℕ) → o ≡ some m → Room stride (places m) b e n
-    → answer_of stride o b e n ≡ Places (places m)
+    → answer_of stride o b e n ≡ Some (places m)
 unfolding answer_of
-answer_places stride o m b e n s h = rw s (if_pos (room? stride (places m) b e n) h (Places (places m)) Unfit)
-
-same_count : {k p : ℕ} → Places k ≡ Places p → k ≡ p
-same_count e = cc
+answer_places stride o m b e n s h = rw s (if_pos (room? stride (places m) b e n) h (Some (places m)) None)
 
 -- no more places are answered than there are states
-pub answer_few : (stride : ℕ) (o : Option Model) (b e n : ℕ) {k : ℕ} → Places k ≡ answer_of stride o b e n → k ≤ stride
+pub answer_few : (stride : ℕ) (o : Option Model) (b e n : ℕ) {k : ℕ} → Some k ≡ answer_of stride o b e n → k ≤ stride
 unfolding answer_of
-answer_few stride none b e n a = absurd (places_unfit (sym a))
+answer_few stride none b e n a = absurd (none-some _ (sym a))
 answer_few stride (some m) b e n {k} a =
     by_cases (room? stride (places m) b e n)
-    (λ h. let z = same_count (a ∙ if_pos (room? stride (places m) b e n) h (Places (places m)) Unfit) in let g = h.0 in omega arith)
-    (λ h. absurd (places_unfit (sym (a ∙ if_neg (room? stride (places m) b e n) h (Places (places m)) Unfit))))
+    (λ h. let z = same_Some _ _ (a ∙ if_pos (room? stride (places m) b e n) h (Some (places m)) None) in let g = h.0 in omega arith)
+    (λ h. absurd (none-some _ (sym (a ∙ if_neg (room? stride (places m) b e n) h (Some (places m)) None))))
 
 -- a line without a token field adds nothing, as it says no model
-pub adds_misshapen : (L : Limits) (n : ℕ) (x : List ℕ) {B O E N : List ℕ} (base : ℕ) → Misshapen ≡ split_of x → Long L.states B O E N
+pub adds_misshapen : (L : Limits) (n : ℕ) (x : List ℕ) {B O E N : List ℕ} (base : ℕ) → None ≡ split_of x → Long L.states B O E N
     → Adds L n x B O E N base base B O E N
 adds_misshapen L n x base e l =
     record { long = l; adds = λ S a m s b k f r. absurd (not_field (e ∙ (says_content L n x s).cut)) }
 
 -- the rests of three slices, lent and given back
-module _ (L : Limits) (n : ℕ) (x : List ℕ) {B O E N : List ℕ} (base from : ℕ) {symbol : ℕ} {r : Sets} {B₁ E₁ N₁ : List ℕ}
-    (long : Long L.states B O E N) (small : base < L.states) (cut : Field symbol from ≡ split_of x)
+module _ (L : Limits) (n : ℕ) (x : List ℕ) {B O E N : List ℕ} (base from : ℕ) {symbol : ℕ} {r : std.Option ℕ} {B₁ E₁ N₁ : List ℕ}
+    (long : Long L.states B O E N) (small : base < L.states) (cut : Some (symbol, from) ≡ split_of x)
     (fills : Fills L n (token_field x from)
     (take (length B - (base + 1)) (drop (base + 1) B)) (take (length E - base) (drop base E))
     (take (length N - (base * L.states + (base + 1))) (drop (base * L.states + (base + 1)) N)) r B₁ E₁ N₁)
@@ -98,10 +94,8 @@ module _ (L : Limits) (n : ℕ) (x : List ℕ) {B O E N : List ℕ} (base from :
   same_field : {a : ℕ} {m : Model} → says L n x ≡ content a m → (a ≡ symbol) × (model_in L n (token_field x from) ≡ some m)
   same_field {a} {m} s =
       let c = says_content L n x s in
-      let e : Field a c.from ≡ Field symbol from = sym c.cut ∙ sym cut in
-      let p : a ≡ symbol = cc in
-      let q : c.from ≡ from = cc in
-      (p, ap (λ (i : ℕ). model_in L n (token_field x i)) (sym q) ∙ c.model)
+      let e = some_pair_parts _ _ _ _ (sym c.cut ∙ sym cut) in
+      (e.0, ap (λ (i : ℕ). model_in L n (token_field x i)) (sym e.1) ∙ c.model)
 
   -- there is room for the sets of its places
   has_room : (p : ℕ) → base + suc p ≤ stride → Room stride p
@@ -115,14 +109,14 @@ module _ (L : Limits) (n : ℕ) (x : List ℕ) {B O E N : List ℕ} (base from :
       let b : (base + suc p) * stride ≡ base * stride + (p * stride + stride) = add-mul base (suc p) stride ∙ ap (λ (n : ℕ). base * stride + n) (suc-mul p stride) in
       (omega arith, (omega (arith, long.bears), (omega (arith, long.ends), omega (arith, long.next))))
 
-  placed : (m : Model) → model_in L n (token_field x from) ≡ some m → base + suc (places m) ≤ stride → r ≡ Places (places m)
+  placed : (m : Model) → model_in L n (token_field x from) ≡ some m → base + suc (places m) ≤ stride → r ≡ Some (places m)
   placed m s h = fills.answer ∙ answer_places stride _ m _ _ _ s (has_room (places m) h)
 
-  pub adds_unfit : Unfit ≡ r → Adds L n x B O E N base base back_b O back_e back_n
+  pub adds_unfit : None ≡ r → Adds L n x B O E N base base back_b O back_e back_n
   adds_unfit e =
-      record { long = long_back refl; adds = λ S a m s b k f h. absurd (places_unfit (e ∙ placed m (same_field s).1 h)) }
+      record { long = long_back refl; adds = λ S a m s b k f h. absurd (none-some _ (e ∙ placed m (same_field s).1 h)) }
 
-  pub adds_line : {k : ℕ} {O' : List ℕ} → Places k ≡ r → Filled O base (base + 1 + k) symbol O'
+  pub adds_line : {k : ℕ} {O' : List ℕ} → Some k ≡ r → Filled O base (base + 1 + k) symbol O'
       → Adds L n x B O E N base (base + 1 + k) back_b O' back_e back_n
   adds_line {k} {O'} e fill = record { long = long_back fill.size; adds = added }
     where
@@ -135,7 +129,7 @@ module _ (L : Limits) (n : ℕ) (x : List ℕ) {B O E N : List ℕ} (base from :
           → (base + 1 + k ≡ base + suc (places m)) × Kept stride (S ++ insides (record { of = a; model = m })) back_b O' back_e back_n
       added S a m s b kept fresh h =
           let f = same_field s in
-          let c : k ≡ places m = same_count (e ∙ placed m f.1 h) in
+          let c : k ≡ places m = same_Some _ _ (e ∙ placed m f.1 h) in
           let i : base + 1 + k ≡ base + suc (places m) = omega arith in (
             i,
             kept_more kept a m (omega arith) fresh

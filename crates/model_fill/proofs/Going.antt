@@ -9,6 +9,8 @@ use mathlib.Core.Bool.{Bool, true, false}
 use mathlib.Core.Option.{none}
 use mathlib.Core.List.{List, [], ◌∷◌, ◌++◌}
 use lib.ListN.{length, take, drop}
+use Rattle.std.specs.Prelude.{Some, None}
+use Rattle.std.proofs.lemmas.Option.{none-some, same_Some}
 use Rattle.paper.specs.Limits.{Limits}
 use Rattle.paper.specs.Told.{Tells}
 use Rattle.lines.specs.Lines.{line_end_of, line_at, Starts}
@@ -185,11 +187,13 @@ module _ (L : Limits) (small : L.symbols ≤ no_symbol_of) where
         kept_here : {v : ℕ} → v ≡ k + 1 → KeptTo L s v B' O' E' N'
         kept_here q = rw (q, sym g.ready.symbols, more_states) added.1
 
-        pub going_ambiguous : {v : ℕ} {t : Bool} → v ≡ k + 1 → Tells t (Clash L.states B' N' base r) → t ≡ true → AddsAll L s v B' O' E' N'
+        pub going_ambiguous : {v : ℕ} {t : Bool} → v ≡ k + 1 → Tells t (Clash L.states B' N' base r) → t ≡ true → AddsAll L s (Some v) B' O' E' N'
         going_ambiguous {v} q t z =
             record {
-              whole = λ i. absurd (omega arith);
-              ambiguous = λ i. (k, q, record { inside = there; wrong = clash_here (t.yes z); before = g.clear }, kept_here q);
+              whole = λ i. absurd (none-some v (sym i));
+              ambiguous = λ {line} i.
+                  let e : line ≡ k + 1 = same_Some line v (sym i) ∙ q in
+                  (k, e, record { inside = there; wrong = clash_here (t.yes z); before = g.clear }, kept_here e);
             }
 
         pub going_more : {t : Bool} → Tells t (Clash L.states B' N' base r) → t ≡ false → Going L s n e (k + 1) r B' O' E' N'
@@ -205,7 +209,7 @@ module _ (L : Limits) (small : L.symbols ≤ no_symbol_of) where
             }
 
   pub going_end : {s : List ℕ} {n at k base : ℕ} {B O E N : List ℕ} → Going L s n at k base B O E N → length s ≤ at
-      → AddsAll L s 0 B O E N
+      → AddsAll L s None B O E N
   unfolding models_in
   going_end {s} {n} {at} {k} {base} {B} {O} {E} {N} g h =
       let i : k ≡ length (said_by L s) = omega (arith, line_missing L g.starts h, g.inside) in
@@ -215,5 +219,5 @@ module _ (L : Limits) (small : L.symbols ≤ no_symbol_of) where
           λ j. by_cases (dec_lt j k) (λ l. g.clear j l) (λ l. (λ x. let b = ambiguous_inside (said_by L s) j x in omega arith)),
           rw (sym g.ready.symbols, sym e) g.kept,
         );
-        ambiguous = λ z. absurd (z refl);
+        ambiguous = λ {line} z. absurd (none-some line z);
       }

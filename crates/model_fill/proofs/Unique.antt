@@ -14,9 +14,11 @@ use Rattle.compiled.specs.States.{State}
 use Rattle.model_read.specs.Text.{SurveyRefused, malformed, too_many_states}
 use Rattle.model_sets.proofs.Unique.{rows_same}
 use Rattle.model_fill.specs.Kept.{Kept}
-use Rattle.model_fill.specs.Fill.{told, FillsStates}
-use Rattle.model_fill.specs.declared.Filling.{Filling}
-use Rattle.model_fill.specs.declared.Filling.TheVariants.{Sizes, Ambiguous, Refused, Unfit}
+use Rattle.model_fill.specs.Fill.{Filling, refusal_of, told, FillsStates}
+use Rattle.std.specs.Prelude.{Ok, Err}
+use Rattle.model_read.proofs.Exact.{same_survey}
+use Rattle.model_fill.specs.declared.Unfilled.{Unfilled}
+use Rattle.model_fill.specs.declared.Unfilled.TheVariants.{Ambiguous, Refused, Unfit}
 
 -- what is kept of states is known
 abbrev Same : List ℕ → List ℕ → List ℕ → List ℕ → List ℕ → List ℕ → List ℕ → List ℕ → Type 0
@@ -49,30 +51,32 @@ survey_number L s (too_many_states w h) = (λ e. omega arith, λ e. omega arith)
 
 module _ (L : Limits) (s B O E N : List ℕ) where
   abbrev Refusing : Filling → Type 0
-  Refusing r = (x : Refusal) → r ≡ Refused x → SurveyRefused L s x.number x.side x.place
+  Refusing r = (x : Refusal) → r ≡ Err (Refused x) → SurveyRefused L s x.number x.side x.place
+
+  abbrev Why : Unfilled → Type 0
+  Why u = (x : Refusal) → u ≡ Refused x → SurveyRefused L s x.number x.side x.place
+
+  why_unique : (u w : Unfilled) → Why u → Why w → refusal_of u ≡ refusal_of w → u ≡ w
+  why_unique (Ambiguous k) (Ambiguous j) f g e = let z : k ≡ j = ap (λ (x : Refusal). x.place) e in ap Ambiguous z
+  why_unique (Ambiguous k) (Refused x) f g e = let z : x.number ≡ 14 = ap (λ (x : Refusal). x.number) (sym e) in absurd ((survey_number L s (g x refl)).0 z)
+  why_unique (Ambiguous k) Unfit f g e = let z : ◌≡◌ {A = ℕ} 14 1 = ap (λ (x : Refusal). x.number) e in absurd (omega arith)
+  why_unique (Refused x) (Ambiguous k) f g e = let z : x.number ≡ 14 = ap (λ (x : Refusal). x.number) e in absurd ((survey_number L s (f x refl)).0 z)
+  why_unique (Refused x) (Refused y) f g e = ap Refused e
+  why_unique (Refused x) Unfit f g e = let z : x.number ≡ 1 = ap (λ (x : Refusal). x.number) e in absurd ((survey_number L s (f x refl)).1 z)
+  why_unique Unfit (Ambiguous k) f g e = let z : ◌≡◌ {A = ℕ} 1 14 = ap (λ (x : Refusal). x.number) e in absurd (omega arith)
+  why_unique Unfit (Refused x) f g e = let z : x.number ≡ 1 = ap (λ (x : Refusal). x.number) (sym e) in absurd ((survey_number L s (g x refl)).1 z)
+  why_unique Unfit Unfit f g e = refl
 
   told_unique : (a b : Filling) → Refusing a → Refusing b → told a ≡ told b → a ≡ b
   unfolding told
-  told_unique (Sizes y t n) (Sizes y' t' n') f g e =
-      let p : y ≡ y' = cc in
-      let q : t ≡ t' = cc in
-      let r : n ≡ n' = cc in
-      rw (p, q, r) refl
-  told_unique (Sizes y t n) (Ambiguous k) f g e = let z : ◌≡◌ {A = ℕ} 0 1 = cc in absurd (omega arith)
-  told_unique (Sizes y t n) (Refused x) f g e = let z : ◌≡◌ {A = ℕ} 0 1 = cc in absurd (omega arith)
-  told_unique (Sizes y t n) Unfit f g e = let z : ◌≡◌ {A = ℕ} 0 1 = cc in absurd (omega arith)
-  told_unique (Ambiguous k) (Sizes y t n) f g e = let z : ◌≡◌ {A = ℕ} 0 1 = cc in absurd (omega arith)
-  told_unique (Ambiguous k) (Ambiguous j) f g e = let z : k ≡ j = cc in ap Ambiguous z
-  told_unique (Ambiguous k) (Refused x) f g e = let z : x.number ≡ 14 = cc in absurd ((survey_number L s (g x refl)).0 z)
-  told_unique (Ambiguous k) Unfit f g e = let z : ◌≡◌ {A = ℕ} 14 1 = cc in absurd (omega arith)
-  told_unique (Refused x) (Sizes y t n) f g e = let z : ◌≡◌ {A = ℕ} 0 1 = cc in absurd (omega arith)
-  told_unique (Refused x) (Ambiguous k) f g e = let z : x.number ≡ 14 = cc in absurd ((survey_number L s (f x refl)).0 z)
-  told_unique (Refused x) (Refused y) f g e = ap Refused (refusal_unique x y e)
-  told_unique (Refused x) Unfit f g e = let z : x.number ≡ 1 = cc in absurd ((survey_number L s (f x refl)).1 z)
-  told_unique Unfit (Sizes y t n) f g e = let z : ◌≡◌ {A = ℕ} 0 1 = cc in absurd (omega arith)
-  told_unique Unfit (Ambiguous k) f g e = let z : ◌≡◌ {A = ℕ} 14 1 = cc in absurd (omega arith)
-  told_unique Unfit (Refused x) f g e = let z : x.number ≡ 1 = cc in absurd ((survey_number L s (g x refl)).1 z)
-  told_unique Unfit Unfit f g e = refl
+  told_unique (Ok v) (Ok w) f g e =
+      let p : v.symbols ≡ w.symbols = cc in
+      let q : v.start ≡ w.start = cc in
+      let r : v.states ≡ w.states = cc in
+      ap Ok (same_survey v w p q r)
+  told_unique (Ok v) (Err u) f g e = let z : ◌≡◌ {A = ℕ} 0 1 = cc in absurd (omega arith)
+  told_unique (Err u) (Ok v) f g e = let z : ◌≡◌ {A = ℕ} 0 1 = cc in absurd (omega arith)
+  told_unique (Err u) (Err w) f g e = ap Err (why_unique u w (λ x h. f x (ap Err h)) (λ x h. g x (ap Err h)) (refusal_unique (refusal_of u) (refusal_of w) e))
 
   pub states_unique : {a b : Filling} {B₁ O₁ E₁ N₁ B₂ O₂ E₂ N₂ : List ℕ} → L.states ≢ 0 → FillsStates L s B O E N a B₁ O₁ E₁ N₁
       → FillsStates L s B O E N b B₂ O₂ E₂ N₂ → (a ≡ b) × Same B₁ O₁ E₁ N₁ B₂ O₂ E₂ N₂
@@ -85,7 +89,7 @@ module _ (L : Limits) (s B O E N : List ℕ) where
       both u v = (u.0 ∙ sym v.0, (u.1.0 ∙ sym v.1.0, (u.1.1.0 ∙ sym v.1.1.0, u.1.1.1 ∙ sym v.1.1.1)))
 
       of_answer : (r : Filling) → a ≡ r → b ≡ a → Same B₁ O₁ E₁ N₁ B₂ O₂ E₂ N₂
-      of_answer (Sizes u v w) e f = kept_unique d (x.whole e) (y.whole (f ∙ e))
-      of_answer (Ambiguous k) e f = kept_unique d (x.ambiguous e) (y.ambiguous (f ∙ e))
-      of_answer (Refused z) e f = both (x.refuses e).1 (y.refuses (f ∙ e)).1
-      of_answer Unfit e f = both (x.unfit e).1 (y.unfit (f ∙ e)).1
+      of_answer (Ok v) e f = kept_unique d (x.whole e) (y.whole (f ∙ e))
+      of_answer (Err (Ambiguous k)) e f = kept_unique d (x.ambiguous e) (y.ambiguous (f ∙ e))
+      of_answer (Err (Refused z)) e f = both (x.refuses e).1 (y.refuses (f ∙ e)).1
+      of_answer (Err Unfit) e f = both (x.unfit e).1 (y.unfit (f ∙ e)).1

@@ -1,5 +1,5 @@
 -- What a model text tells once its models are looked into, and what is then kept of its states.
-use Rattle.std.specs.Prelude.{ℕ, ◌*◌, ◌≡◌, List, length}
+use Rattle.std.specs.Prelude.{ℕ, ◌*◌, ◌≡◌, List, length, Result, Ok, Err}
 use Rattle.std.proofs.Math.Logic.{ite}
 use Rattle.std.proofs.Math.Logic.Dec
 use Rattle.std.proofs.Math.Decide.{ℕ_discrete, map_dec}
@@ -12,8 +12,19 @@ use Rattle.model_read.specs.Text.{symbols_in, said_by, survey_told, SurveyRefuse
 use Rattle.model_fill.specs.Ambiguity.{models_in, ambiguity_at}
 use Rattle.model_fill.specs.Kept.{Long, Kept}
 use Rattle.model_fill.specs.Work.{KeptTo}
-use Rattle.model_fill.specs.declared.Filling.{Filling}
-use Rattle.model_fill.specs.declared.Filling.TheVariants.{Sizes, Ambiguous, Refused, Unfit}
+use Rattle.model_read.specs.declared.Survey.{Survey}
+use Rattle.model_fill.specs.declared.Unfilled.{Unfilled}
+use Rattle.model_fill.specs.declared.Unfilled.TheVariants.{Ambiguous, Refused, Unfit}
+
+-- what is answered: the sizes, or why the states are not filled in
+abbrev pub Filling : Type 0
+Filling = Result Survey Unfilled
+
+-- how it is refused that states are not filled in
+abbrev pub refusal_of : Unfilled → Refusal
+refusal_of (Ambiguous k) = record { number = 14; side = 0; place = k }
+refusal_of (Refused x) = x
+refusal_of Unfit = record { number = 1; side = 0; place = 0 }
 
 unfoldable pub long? : (stride : ℕ) (B O E N : List ℕ) → Dec (Long stride B O E N)
 long? stride B O E N =
@@ -31,10 +42,8 @@ fill_told L s B O E N =
 
 -- what each answer tells, as it is told of the text that is compiled
 unfoldable pub told : Filling → Told
-told (Sizes y t n) = sizes y t n
-told (Ambiguous k) = refused 14 0 k
-told (Refused x) = refusal x
-told Unfit = refused 1 0 0
+told (Ok x) = sizes x.symbols x.start x.states
+told (Err u) = refusal (refusal_of u)
 
 -- four slices are as they were
 abbrev pub Unchanged : List ℕ → List ℕ → List ℕ → List ℕ → List ℕ → List ℕ → List ℕ → List ℕ → Type 0
@@ -44,7 +53,7 @@ Unchanged B O E N B' O' E' N' = (B' ≡ B) × ((O' ≡ O) × ((E' ≡ E) × (N' 
 -- changed
 pub record FillsStates (L : Limits) (s B O E N : List ℕ) (r : Filling) (B' O' E' N' : List ℕ) : Type 0 where
   pub answer : told r ≡ fill_told L s B O E N
-  pub whole : {y t n : ℕ} → r ≡ Sizes y t n → Kept L.states (states (symbols_in L s) (models_in L s)) B' O' E' N'
-  pub ambiguous : {k : ℕ} → r ≡ Ambiguous k → KeptTo L s k B' O' E' N'
-  pub refuses : {x : Refusal} → r ≡ Refused x → SurveyRefused L s x.number x.side x.place × Unchanged B O E N B' O' E' N'
-  pub unfit : r ≡ Unfit → ¬ Long L.states B O E N × Unchanged B O E N B' O' E' N'
+  pub whole : {x : Survey} → r ≡ Ok x → Kept L.states (states (symbols_in L s) (models_in L s)) B' O' E' N'
+  pub ambiguous : {k : ℕ} → r ≡ Err (Ambiguous k) → KeptTo L s k B' O' E' N'
+  pub refuses : {x : Refusal} → r ≡ Err (Refused x) → SurveyRefused L s x.number x.side x.place × Unchanged B O E N B' O' E' N'
+  pub unfit : r ≡ Err Unfit → ¬ Long L.states B O E N × Unchanged B O E N B' O' E' N'

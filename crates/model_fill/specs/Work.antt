@@ -1,5 +1,5 @@
 -- What adding the M lines of a text to the slices does, one line and all of them.
-use Rattle.std.specs.Prelude.{ℕ, suc, ◌+◌, ◌≤◌, ◌<◌, ◌≡◌, ◌≢◌, List, ◌++◌, length, take}
+use Rattle.std.specs.Prelude.{ℕ, suc, ◌+◌, ◌≤◌, ◌<◌, ◌≡◌, ◌≢◌, List, ◌++◌, length, take, Option, Some, None}
 use Rattle.paper.specs.Limits.{Limits}
 use Rattle.paper.specs.First.{FirstWrong}
 use Rattle.model.specs.Model.{Model, places}
@@ -26,7 +26,7 @@ pub record Ready (L : Limits) (s : List ℕ) (n : ℕ) : Type 0 where
 abbrev pub KeptTo : Limits → List ℕ → ℕ → List ℕ → List ℕ → List ℕ → List ℕ → Type 0
 KeptTo L s k B O E N = Kept L.states (states (symbols_in L s) (models_of (take k (said_by L s)))) B O E N
 
--- all M lines of a text are added; or r is the number of the first line with an ambiguous model, and those up to it are added
-pub record AddsAll (L : Limits) (s : List ℕ) (r : ℕ) (B' O' E' N' : List ℕ) : Type 0 where
-  pub whole : r ≡ 0 → ((k : ℕ) → ¬ AmbiguousAt (said_by L s) k) × Kept L.states (states (symbols_in L s) (models_in L s)) B' O' E' N'
-  pub ambiguous : r ≢ 0 → (k : ℕ) × (r ≡ k + 1) × FirstWrong (AmbiguousAt (said_by L s)) (length (said_by L s)) k × KeptTo L s r B' O' E' N'
+-- all M lines of a text are added; or r tells the number of the first line with an ambiguous model, and those up to it are added
+pub record AddsAll (L : Limits) (s : List ℕ) (r : Option ℕ) (B' O' E' N' : List ℕ) : Type 0 where
+  pub whole : r ≡ None → ((k : ℕ) → ¬ AmbiguousAt (said_by L s) k) × Kept L.states (states (symbols_in L s) (models_in L s)) B' O' E' N'
+  pub ambiguous : {line : ℕ} → r ≡ Some line → (k : ℕ) × (line ≡ k + 1) × FirstWrong (AmbiguousAt (said_by L s)) (length (said_by L s)) k × KeptTo L s line B' O' E' N'

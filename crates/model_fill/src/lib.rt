@@ -7,27 +7,47 @@ ghost use Rattle.paper.specs.Limits.{limits};
 ghost use Rattle.paper.specs.Told.{Tells};
 ghost use Rattle.model_fill.specs.Kept.{Long, Kept};
 ghost use Rattle.model_fill.specs.Work.{Adds, Ready, AddsAll};
-ghost use Rattle.model_fill.specs.Fill.{FillsStates};
+ghost use Rattle.model_fill.specs.Fill.{FillsStates, refusal_of};
+ghost use Rattle.model_fill.specs.declared.Unfilled.TheVariants.{Refused};
 
-use model_line::Cut;
 use model_read::Survey;
-use model_sets::Sets;
-use paper::Refusal;
+use paper::{Fault, Refusal};
 
 // What bears no symbol, or belongs to none, has this number in its place.
-pub const NO_SYMBOL: u16 = 65535;
+// Kept: a public promise, as fill_states fills lent slices of u16 with it.
+pub const NO_SYMBOL: u16 = u16::MAX;
 
 // The numbers of a slice of next places.
 pub const NEXT: usize = paper::STATES * paper::STATES;
 
-// What a text's states come to: its symbols, its start and how many states; the number of the first line with an ambiguous model; its
-// refusal, 13 or 15; or the slices have other lengths than they must.
-#[derive(Drop)]
-pub enum Filling {
-    Sizes(u16, u16, usize),
+// Why the states of a text are not filled in: the number of the first line with an ambiguous model; the text's refusal, 13 or 15; or the
+// slices have other lengths than they must.
+#[derive(Clone, Copy, PartialEq, Eq)]
+pub enum Unfilled {
     Ambiguous(usize),
     Refused(Refusal),
     Unfit,
+}
+
+impl From<Refusal> for Unfilled {
+    ghost from_gives = { λ refusal unfilled. unfilled ≡ Refused refusal };
+
+    fn from(refusal: Refusal) -> Unfilled {
+        Unfilled::Refused(refusal)
+    }
+}
+
+// How it is refused: 14, the text's own refusal, or 1.
+impl From<Unfilled> for Refusal {
+    ghost from_gives = { λ unfilled refusal. refusal ≡ refusal_of unfilled };
+
+    fn from(unfilled: Unfilled) -> Refusal {
+        match unfilled {
+            Unfilled::Ambiguous(line) => Refusal::at(Fault::Ambiguous, line),
+            Unfilled::Refused(refusal) => refusal,
+            Unfilled::Unfit => Refusal::at(Fault::Room, 0),
+        }
+    }
 }
 
 // Have the four slices their lengths?
@@ -72,7 +92,7 @@ fn add_line(
     ensures { Adds limits symbols x.now bears.old owners.old ends.old
         next.old base result bears.new owners.new ends.new next.new }
 {
-    let Cut::Field(symbol, from) = model_line::split(x) else {
+    let Some((symbol, from)) = model_line::split(x) else {
         return base;
     };
     let to = x.len() - 1;
@@ -85,7 +105,7 @@ fn add_line(
         &mut ends[base..],
         &mut next[row..],
     );
-    let Sets::Places(places) = sets else {
+    let Some(places) = sets else {
         return base;
     };
     let behind = place + places;
@@ -93,7 +113,7 @@ fn add_line(
     behind
 }
 
-// Adds the states of all M lines; answers the number of the first line whose model is ambiguous, or 0.
+// Adds the states of all M lines; answers the number of the first line whose model is ambiguous, if one is.
 fn add_lines(
     text: &[u8],
     symbols: u16,
@@ -101,7 +121,7 @@ fn add_lines(
     owners: &mut [u16],
     ends: &mut [u16],
     next: &mut [u16],
-) -> usize
+) -> Option<usize>
     requires { Ready limits text.now symbols × Kept limits.states [] bears.old owners.old ends.old next.old }
     ensures { AddsAll limits text.now result bears.new owners.new ends.new
         next.new }
@@ -109,17 +129,18 @@ fn add_lines(
     let mut at = lines::line_end(text, 0);
     let mut k = 1;
     let mut base = symbols as usize;
+    // Kept: a while, since a line's length varies.
     while at < text.len() {
         let end = lines::line_end(text, at);
         let behind = add_line(&text[at..end], base, symbols, bears, owners, ends, next);
         k += 1;
         if model_clash::clashes(bears, next, base, behind) {
-            return k;
+            return Some(k);
         }
         base = behind;
         at = end;
     }
-    0
+    None
 }
 
 // Reads a model text, and fills in what is known of its states.
@@ -129,22 +150,17 @@ pub fn fill_states(
     owners: &mut [u16],
     ends: &mut [u16],
     next: &mut [u16],
-) -> Filling
+) -> Result<Survey, Unfilled>
     ensures { FillsStates limits text.now bears.old owners.old ends.old
         next.old result bears.new owners.new ends.new next.new }
 {
     if !are_long(bears, owners, ends, next) {
-        return Filling::Unfit;
+        return Err(Unfilled::Unfit);
     }
-    match model_read::survey_text(text) {
-        Survey::Refused(x) => Filling::Refused(x),
-        Survey::Sizes(symbols, start, states) => {
-            clear(bears, owners, ends, next);
-            let line = add_lines(text, symbols, bears, owners, ends, next);
-            if line != 0 {
-                return Filling::Ambiguous(line);
-            }
-            Filling::Sizes(symbols, start, states)
-        }
+    let survey = model_read::survey_text(text)?;
+    clear(bears, owners, ends, next);
+    if let Some(line) = add_lines(text, survey.symbols, bears, owners, ends, next) {
+        return Err(Unfilled::Ambiguous(line));
     }
+    Ok(survey)
 }

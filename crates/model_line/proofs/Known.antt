@@ -11,10 +11,8 @@ use borrow.Author.Tests.{eqb-true}
 use Rattle.paper.specs.Limits.{Limits, at}
 use Rattle.lines.specs.Number.{decimal}
 use Rattle.lines.specs.Lines.{tab}
-use Rattle.lines.specs.Fields.{field, fields}
-use Rattle.lines.specs.declared.Number.TheVariants.{Value}
-use Rattle.lines.specs.declared.Fields.{Fields}
-use Rattle.lines.specs.declared.Fields.TheVariants.{Got, Wrong}
+use Rattle.lines.specs.Fields.{Fields, field, fields}
+use Rattle.std.specs.Prelude.{Some, None, Ok, Err}
 use Rattle.lines.proofs.Tests.{split}
 use Rattle.lines.proofs.NumberLaws.{decimal_two, not_both}
 use Rattle.lines.proofs.FieldLaws.{letters_shown, length_two}
@@ -22,21 +20,19 @@ use Rattle.lines.proofs.Within.{number_ends}
 use Rattle.model.specs.Model.{Model}
 use Rattle.postfix.specs.Field.{model_in}
 use Rattle.postfix.proofs.Written.{model_tokens}
-use Rattle.model_line.specs.Line.{Said, head, content, misshapen, letter_d, split_of, token_field, head_said_of, content_said, model_said, says}
-use Rattle.model_line.specs.declared.Cut.{Cut}
-use Rattle.model_line.specs.declared.Cut.TheVariants.{Field, Misshapen}
+use Rattle.model_line.specs.Line.{Said, Cut, head, content, misshapen, letter_d, split_of, token_field, head_said_of, content_said, model_said, says}
 use Rattle.model_line.proofs.SplitLaws.{split_shown}
 
 -- the line x is a header
 pub record Header (x : List ℕ) (y s : ℕ) : Type 0 where
   pub letter : at x 0 ≡ letter_d
   pub third : ℕ
-  pub numbers : fields 2 x ≡ Got y s third
+  pub numbers : fields 2 x ≡ Ok (y, s, third)
 
 -- the line x is an M line with the symbol a, whose token field writes m
 pub record Content (L : Limits) (n : ℕ) (x : List ℕ) (a : ℕ) (m : Model) : Type 0 where
   pub from : ℕ
-  pub cut : split_of x ≡ Field a from
+  pub cut : split_of x ≡ Some (a, from)
   pub model : model_in L n (token_field x from) ≡ some m
 
 -- what the line x says, it is
@@ -48,10 +44,10 @@ Shown L n x misshapen = Unit
 module _ (L : Limits) (n : ℕ) (x : List ℕ) where
   shown_head : at x 0 ≡ letter_d → (f : Fields) → fields 2 x ≡ f → Shown L n x (head_said_of f)
   unfolding head_said_of
-  shown_head h (Got y s c) e = record { letter = h; third = c; numbers = e }
-  shown_head h (Wrong i) e = tt
+  shown_head h (Ok (y, s, c)) e = record { letter = h; third = c; numbers = e }
+  shown_head h (Err i) e = tt
 
-  shown_model : (a i : ℕ) → split_of x ≡ Field a i → (o : Option Model) → model_in L n (token_field x i) ≡ o →
+  shown_model : (a i : ℕ) → split_of x ≡ Some (a, i) → (o : Option Model) → model_in L n (token_field x i) ≡ o →
       Shown L n x (content_said a o)
   unfolding content_said
   shown_model a i e none q = tt
@@ -59,8 +55,8 @@ module _ (L : Limits) (n : ℕ) (x : List ℕ) where
 
   shown_split : (c : Cut) → split_of x ≡ c → Shown L n x (model_said L n x c)
   unfolding model_said
-  shown_split (Field a i) e = shown_model a i e (model_in L n (token_field x i)) refl
-  shown_split Misshapen e = tt
+  shown_split (Some (a, i)) e = shown_model a i e (model_in L n (token_field x i)) refl
+  shown_split None e = tt
 
   shown : Shown L n x (says L n x)
   unfolding says
@@ -84,7 +80,7 @@ head_size L n x {y} {s} e hy hs =
     omega (arith, l, decimal_two y hy, decimal_two s hs)
 
 -- where the number of an M line ends
-field_end : (x : List ℕ) {a e : ℕ} → field x 1 ≡ Value a e → e ≡ 2 + length (decimal a)
+field_end : (x : List ℕ) {a e : ℕ} → field x 1 ≡ Ok (a, e) → e ≡ 2 + length (decimal a)
 unfolding field
 field_end x {a} {e} h =
     split (eqb (at x 1) tab)

@@ -16,7 +16,7 @@ use Rattle.lines.proofs.FieldLaws.{field_read, field_shown, letters_two, letters
 use Rattle.model.specs.Model.{Model}
 use Rattle.postfix.specs.Field.{model_in}
 use Rattle.model_line.specs.Line.{head, content, letter_d, letter_m, split_of, token_field, head_said_of, content_said, model_said, says, model_line_of}
-use Rattle.model_line.specs.declared.Cut.TheVariants.{Field}
+use Rattle.std.specs.Prelude.{Some}
 use Rattle.model_line.proofs.SplitLaws.{split_found, split_shown}
 use Rattle.model_line.proofs.Known.{says_head, says_content}
 
@@ -57,7 +57,7 @@ field_ended x i h l =
     sym (take-append-drop k (drop i x)) ∙ ap (λ y. take k (drop i x) ++ y) e
 
 -- an M line is its letter, its symbol and its token field
-module _ (x : List ℕ) {a i : ℕ} (h : split_of x ≡ Field a i) where
+module _ (x : List ℕ) {a i : ℕ} (h : split_of x ≡ Some (a, i)) where
   split_shaped : x ≡ model_line_of a (token_field x i)
   unfolding model_line_of
   split_shaped =
@@ -90,7 +90,7 @@ module _ (a : ℕ) (f : List ℕ) where
   line_length = omega (arith, length-append (entry a) (tab ∷ (f ++ (lf ∷ []))), length-append f (lf ∷ []))
 
   module _ (h : a ≤ most_number) where
-    line_split : Field a (1 + length (entry a) + 1) ≡ split_of (model_line_of a f)
+    line_split : Some (a, 1 + length (entry a) + 1) ≡ split_of (model_line_of a f)
     line_split =
         let x = model_line_of a f in
         let r = field_read x 1 a h tab_ends line_rest in

@@ -9,24 +9,24 @@ use borrow.Author.Tests.{eq-eqb, ne_eqb, eqb-true, eqb-false}
 use Rattle.paper.specs.Limits.{at}
 use Rattle.lines.specs.Lines.{tab, lf}
 use Rattle.lines.specs.Fields.{field}
-use Rattle.lines.specs.declared.Number.TheVariants.{Value, Bad}
+use Rattle.std.specs.Prelude.{Some, None, Ok, Err}
+use Rattle.std.proofs.lemmas.Option.{some_pair_parts}
 use Rattle.lines.proofs.Tests.{split}
 use Rattle.lines.proofs.Places.{within}
 use Rattle.lines.proofs.FieldLaws.{numbers}
-use Rattle.model_line.specs.Line.{letter_m, field_behind, split_of}
-use Rattle.model_line.specs.declared.Cut.TheVariants.{Field, Misshapen}
+use Rattle.model_line.specs.Line.{Cut, letter_m, field_behind, split_of}
 
 module _ (x : List ℕ) where
-  pub split_empty : length x ≡ 0 → Misshapen ≡ split_of x
+  pub split_empty : length x ≡ 0 → None ≡ split_of x
   unfolding split_of
   split_empty h = let e : at x 0 ≡ 0 = get_or-eq_default x 0 {n = 0} (omega arith) in rw e
 
-  pub split_letter : (at x 0 ≡ letter_m → ⊥) → Misshapen ≡ split_of x
+  pub split_letter : (at x 0 ≡ letter_m → ⊥) → None ≡ split_of x
   unfolding split_of
   split_letter h = rw (ne_eqb (at x 0) letter_m h)
 
   module _ (m : at x 0 ≡ letter_m) where
-    pub split_open : (at x (length x - 1) ≡ lf → ⊥) → Misshapen ≡ split_of x
+    pub split_open : (at x (length x - 1) ≡ lf → ⊥) → None ≡ split_of x
     unfolding split_of
     split_open h = rw (eq-eqb (at x 0) letter_m m, ne_eqb (at x (length x - 1)) lf h)
 
@@ -35,24 +35,24 @@ module _ (x : List ℕ) where
       unfolding split_of
       split_behind = rw (eq-eqb (at x 0) letter_m m, eq-eqb (at x (length x - 1)) lf l)
 
-      pub split_bad : {i : ℕ} → field x 1 ≡ Bad i → Misshapen ≡ split_of x
+      pub split_bad : {i : ℕ} → field x 1 ≡ Err i → None ≡ split_of x
       unfolding field_behind
       split_bad {i} e = ap (field_behind x) (sym e) ∙ split_behind
 
-      module _ {a i : ℕ} (e : field x 1 ≡ Value a i) where
-        split_value : field_behind x (Value a i) ≡ split_of x
+      module _ {a i : ℕ} (e : field x 1 ≡ Ok (a, i)) where
+        split_value : field_behind x (Ok (a, i)) ≡ split_of x
         split_value = ap (field_behind x) (sym e) ∙ split_behind
 
-        pub split_tab : (at x i ≡ tab → ⊥) → Misshapen ≡ split_of x
+        pub split_tab : (at x i ≡ tab → ⊥) → None ≡ split_of x
         unfolding field_behind
         split_tab h = rw (ne_eqb (at x i) tab h) at split_value
 
-        pub split_short : length x ≤ i → Misshapen ≡ split_of x
+        pub split_short : length x ≤ i → None ≡ split_of x
         split_short h =
             let z : at x i ≡ 0 = get_or-eq_default x 0 {n = i} h in
             split_tab (λ t. omega arith)
 
-        pub split_found : at x i ≡ tab → Field a (i + 1) ≡ split_of x
+        pub split_found : at x i ≡ tab → Some (a, i + 1) ≡ split_of x
         unfolding field_behind
         split_found h = rw (eq-eqb (at x i) tab h) at split_value
 
@@ -61,15 +61,15 @@ pub record Apart (x : List ℕ) (a i : ℕ) : Type 0 where
   pub letter : at x 0 ≡ letter_m
   pub last : at x (length x - 1) ≡ lf
   pub end : ℕ
-  pub number : field x 1 ≡ Value a end
+  pub number : field x 1 ≡ Ok (a, end)
   pub parted : at x end ≡ tab
   pub from : i ≡ end + 1
   pub room : i < length x
 
-pub not_field : {a i : ℕ} → Misshapen ≡ Field a i → ⊥
+pub not_field : {a i : ℕ} → ◌≡◌ {A = Cut} None (Some (a, i)) → ⊥
 not_field e = let z : ◌≡◌ {A = ℕ} 0 1 = cc in omega arith
 
-apart : (x : List ℕ) (a i e : ℕ) → at x 0 ≡ letter_m → at x (length x - 1) ≡ lf → field x 1 ≡ Value a e → at x e ≡ tab → i ≡ e + 1 →
+apart : (x : List ℕ) (a i e : ℕ) → at x 0 ≡ letter_m → at x (length x - 1) ≡ lf → field x 1 ≡ Ok (a, e) → at x e ≡ tab → i ≡ e + 1 →
     Apart x a i
 apart x a i e m l q t f =
     let w : e < length x = within x e (omega arith) in
@@ -86,7 +86,7 @@ apart x a i e m l q t f =
           (λ u. omega (arith, eqb-false e (length x - 1) u, w, f));
     }
 
-pub split_shown : (x : List ℕ) {a i : ℕ} → split_of x ≡ Field a i → Apart x a i
+pub split_shown : (x : List ℕ) {a i : ℕ} → split_of x ≡ Some (a, i) → Apart x a i
 unfolding split_of field_behind
 split_shown x {a} {i} h =
     split (eqb (at x 0) letter_m)
@@ -94,12 +94,12 @@ split_shown x {a} {i} h =
     (λ u. numbers (field x 1)
     (λ b e q. split (eqb (at x e) tab)
     (λ v.
-    let z : Field b (e + 1) ≡ Field a i = rw (t, u, q, v) at h in
-    let y : b ≡ a = cc in
-    let w : e + 1 ≡ i = cc in
+    let z = some_pair_parts _ _ _ _ (rw (t, u, q, v) at h) in
+    let y : b ≡ a = z.0 in
+    let w : e + 1 ≡ i = z.1 in
     let m = eqb-true (at x 0) letter_m t in
     let l = eqb-true (at x (length x - 1)) lf u in
-    apart x a i e m l (q ∙ ap (λ c. Value c e) y) (eqb-true (at x e) tab v) (sym w))
+    apart x a i e m l (q ∙ ap (λ c. Ok (c, e)) y) (eqb-true (at x e) tab v) (sym w))
     (λ v. absurd (not_field (rw (t, u, q, v) at h))))
     (λ e q. absurd (not_field (rw (t, u, q) at h))))
     (λ u. absurd (not_field (rw (t, u) at h))))

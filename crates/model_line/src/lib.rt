@@ -5,80 +5,64 @@ ghost use Rattle.std.specs.Prelude.{◌≡◌};
 ghost use Rattle.paper.specs.Limits.{limits};
 ghost use Rattle.model_line.specs.Line.{split_of, model_said, says, line_of};
 
-use lines::{Fields, Number};
-use postfix::Content;
+const LETTER_D: u8 = b'D';
 
-const LETTER_D: u8 = 68;
+const LETTER_M: u8 = b'M';
 
-const LETTER_M: u8 = 77;
-
-// The symbol of an M line and where its token field begins; or the line is no such line.
-#[derive(Drop)]
-pub enum Cut {
-    Field(u16, usize),
-    Misshapen,
-}
-
-// What a line says: the header, with its symbols and its start; a symbol and how many places its model has; or neither.
-#[derive(Drop)]
+// What a line says: the header, with its symbols and its start; or a symbol and how many places its model has.
+#[derive(Clone, Copy, PartialEq, Eq)]
 pub enum Line {
     Head(u16, u16),
     Model(u16, usize),
-    Misshapen,
 }
 
-// Finds the token field of an M line.
-pub fn split(x: &[u8]) -> Cut
+// The symbol of an M line and where its token field begins, if the line is one.
+pub fn split(x: &[u8]) -> Option<(u16, usize)>
     ensures { result ≡ split_of x.now }
 {
-    let len = x.len();
-    if len == 0 {
-        return Cut::Misshapen;
+    if x.is_empty() {
+        return None;
     }
     if x[0] != LETTER_M {
-        return Cut::Misshapen;
+        return None;
     }
-    if x[len - 1] != lines::LF {
-        return Cut::Misshapen;
+    if x[x.len() - 1] != lines::LF {
+        return None;
     }
-    let Number::Value(symbol, end) = lines::read_field(x, 1) else {
-        return Cut::Misshapen;
+    let Ok((symbol, end)) = lines::read_field(x, 1) else {
+        return None;
     };
-    if len <= end {
-        return Cut::Misshapen;
+    if x.len() <= end {
+        return None;
     }
     if x[end] != lines::TAB {
-        return Cut::Misshapen;
+        return None;
     }
-    Cut::Field(symbol, end + 1)
+    Some((symbol, end + 1))
 }
 
 // Reads an M line over so many symbols: its token field goes to the model reader as it stands.
-fn read_content(x: &[u8], symbols: u16) -> Line
+fn read_content(x: &[u8], symbols: u16) -> Option<Line>
     ensures { result ≡ line_of (model_said limits symbols x.now (split_of x.now)) }
 {
-    let Cut::Field(symbol, from) = split(x) else {
-        return Line::Misshapen;
-    };
+    let (symbol, from) = split(x)?;
     let to = x.len() - 1;
-    match postfix::read_model(&x[from..to], symbols) {
-        Content::Places(n) => Line::Model(symbol, n),
-        Content::Bad => Line::Misshapen,
-    }
+    let places = postfix::read_model(&x[from..to], symbols)?;
+    Some(Line::Model(symbol, places))
 }
 
-// Reads a line over so many symbols.
-pub fn read_line(x: &[u8], symbols: u16) -> Line
+// What a line says over so many symbols, if it has the shape of a header or of a model.
+pub fn read_line(x: &[u8], symbols: u16) -> Option<Line>
     ensures { result ≡ line_of (says limits symbols x.now) }
 {
-    if x.len() == 0 {
-        return Line::Misshapen;
+    if x.is_empty() {
+        return None;
     }
     if x[0] != LETTER_D {
         return read_content(x, symbols);
     }
-    match lines::read_fields(x, 2) {
-        Fields::Got(y, s, _) => Line::Head(y, s),
-        Fields::Wrong(_) => Line::Misshapen,
-    }
+    let Ok((y, s, _)) = lines::read_fields(x, 2) else {
+        return None;
+    };
+    Some(Line::Head(y, s))
 }

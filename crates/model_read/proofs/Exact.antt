@@ -3,6 +3,7 @@ use Prim.Native.Nat.{ℕ, zero, suc, ◌+◌}
 use mathlib.Core.Path.{◌≡◌, refl, sym, ap, ◌∙◌}
 use mathlib.Core.Logic.{inl, inr, ⊎_elim, ◌↔◌, by_cases, if_pos, if_neg}
 use mathlib.Core.List.{List}
+use borrow.Author.Rules.{rules}
 use native.Mathlib.Decide.{dec_lt}
 use native.Mathlib.Omega.{arith}
 use lib.ListN.{length, take}
@@ -20,7 +21,8 @@ use Rattle.model_read.specs.Text.{head_fault_of, line_fault_of, fault_at, looked
 use Rattle.model_read.specs.Text.{HeadWrong, no_head, model_first, head_range, LineWrong, no_shape, second_head, symbol_range, symbol_again}
 use Rattle.model_read.specs.Text.{WrongAt, WellFormed, SurveyRefused, malformed, too_many_states}
 use Rattle.model_read.specs.declared.Survey.{Survey}
-use Rattle.model_read.specs.declared.Survey.TheVariants.{Sizes, Refused}
+use Rattle.paper.specs.declared.Refusal.{Refusal}
+use Rattle.std.specs.Prelude.{Result, Ok, Err}
 
 pub range_only : {L : Limits} {y s : ℕ} → HeadWrong L (head y s) → BadHead L y s
 range_only (head_range h) = h
@@ -106,16 +108,19 @@ module _ (L : Limits) (s : List ℕ) where
       to e (refused_with r g) = refused_as (SurveyRefused L s) (sym g ∙ e) r
       to e (good w h) = absurd (refused_not_sizes (sym (survey_sizes w h) ∙ e))
 
--- the survey's answer is known by what it tells, so that two answers which its contract allows are equal
-told_unique : (a b : Survey) → told a ≡ told b → a ≡ b
-told_unique (Sizes y s n) (Sizes y' s' n') e =
-    let f : y ≡ y' = cc in
-    let g : s ≡ s' = cc in
-    let h : n ≡ n' = cc in
-    rw (f, g, h) refl
-told_unique (Sizes y s n) (Refused x) e = absurd (refused_not_sizes e)
-told_unique (Refused x) (Sizes y s n) e = absurd (refused_not_sizes (sym e))
-told_unique (Refused x) (Refused z) e = ap Refused (refusal_unique x z e)
+pub same_survey : (v w : Survey) → v.symbols ≡ w.symbols → v.start ≡ w.start → v.states ≡ w.states → v ≡ w
+same_survey v w f g h = search rules
 
-pub survey_unique : (L : Limits) (s : List ℕ) (a b : Survey) → told a ≡ survey_told L s → told b ≡ survey_told L s → a ≡ b
+-- the survey's answer is known by what it tells, so that two answers which its contract allows are equal
+told_unique : (a b : Result Survey Refusal) → told a ≡ told b → a ≡ b
+told_unique (Ok v) (Ok w) e =
+    let f : v.symbols ≡ w.symbols = cc in
+    let g : v.start ≡ w.start = cc in
+    let h : v.states ≡ w.states = cc in
+    ap Ok (same_survey v w f g h)
+told_unique (Ok v) (Err x) e = absurd (refused_not_sizes e)
+told_unique (Err x) (Ok v) e = absurd (refused_not_sizes (sym e))
+told_unique (Err x) (Err z) e = ap Err (refusal_unique x z e)
+
+pub survey_unique : (L : Limits) (s : List ℕ) (a b : Result Survey Refusal) → told a ≡ survey_told L s → told b ≡ survey_told L s → a ≡ b
 survey_unique L s a b x y = told_unique a b (x ∙ sym y)

@@ -11,7 +11,7 @@ use borrow.Author.Count.{below_more}
 use lib.ListN.{length, get_or, take, drop, set, replicate, length-set, length-replicate, get_or-replicate}
 use lib.Seq.{get_or-set_same, get_or-set_other}
 use Rattle.paper.specs.Limits.{Limits}
-use Rattle.paper.specs.Told.{Tells}
+use Rattle.paper.specs.Told.{Tells, refusal}
 use Rattle.paper.proofs.TellsLaws.{tells_yes, tells_no}
 use Rattle.lines.specs.Lines.{line_end_of, Starts}
 use Rattle.lines.proofs.LinesLaws.{starts_next}
@@ -26,8 +26,9 @@ use Rattle.compiled.proofs.Counts.{length_states_none, length_states_more}
 use Rattle.model_read.specs.Text.{symbols_of, start_of, said_at, symbols_in, said_by, models_of, Modelled, survey_told, told}
 use Rattle.model_read.specs.Text.{LineWrong, no_shape, second_head, symbol_range, symbol_again, WrongAt, WellFormed}
 use Rattle.model_read.specs.Work.{Headed}
-use Rattle.model_read.specs.declared.Survey.{Survey}
-use Rattle.model_read.specs.declared.Survey.TheVariants.{Sizes, Refused}
+use Rattle.paper.specs.declared.Refusal.{Refusal}
+use Rattle.std.specs.Prelude as std
+use Rattle.std.specs.Prelude.{Some, Ok}
 use Rattle.model_read.proofs.Exact.{survey_malformed, survey_states, survey_sizes, range_only, symbol_only}
 use Rattle.model_read.proofs.Said.{symbols_said, symbols_head, said_places, line_there, line_missing, line_says}
 use Rattle.model_read.proofs.Models.{models_first, models_more, models_all, modelled_more, modelled_last, modelled_other}
@@ -81,7 +82,7 @@ good_at L s zero h l r = absurd (omega arith)
 good_at L s (suc k) h l r = good_to L s k l r
 
 -- a line that is no M line
-no_content : (n : ℕ) (before : List Line) (x : Said) → ((a p : ℕ) → line_of x ≡ line.Model a p → ⊥) → LineWrong n before x
+no_content : (n : ℕ) (before : List Line) (x : Said) → ((a p : ℕ) → line_of x ≡ Some (line.Model a p) → ⊥) → LineWrong n before x
 unfolding line_of
 no_content n before (head y t) h = second_head
 no_content n before (content a m) h = absurd (h a (places m) refl)
@@ -134,7 +135,7 @@ module _ (L : Limits) where
     going_size = omega (arith, g.states, rw (sym symbols) at (good_few L s good_here (omega (arith, symbols, g.small))))
 
     -- a line: where it ends, and what it says
-    module _ {e : ℕ} {l : said.Line} (ha : at < length s) (he : e ≡ line_end_of at (drop at s))
+    module _ {e : ℕ} {l : std.Option said.Line} (ha : at < length s) (he : e ≡ line_end_of at (drop at s))
         (hl : l ≡ line_of (says L n (take (e - at) (drop at s)))) where
       is_line : l ≡ line_of (said_at (said_by L s) k)
       is_line = line_says L g.starts he symbols hl
@@ -142,22 +143,22 @@ module _ (L : Limits) where
       over : n ≡ symbols_of (said_at (said_by L s) 0)
       over = symbols ∙ symbols_said L s
 
-      refused_line : {x : Survey} → LineWrong n (models_of (take k (said_by L s))) (said_at (said_by L s) k)
-          → x ≡ Refused (record { number = 13; side = 0; place = k + 1 }) → told x ≡ survey_told L s
+      refused_line : {x : Refusal} → LineWrong n (models_of (take k (said_by L s))) (said_at (said_by L s) k)
+          → x ≡ record { number = 13; side = 0; place = k + 1 } → refusal x ≡ survey_told L s
       refused_line w q =
-          ap told q ∙ sym (survey_malformed L s (record {
+          ap refusal q ∙ sym (survey_malformed L s (record {
             inside = let z = line_there L g.starts ha in omega arith;
             wrong = wrong_behind L (said_by L s) k g.behind (rw over at w);
             before = g.right;
           }))
 
-      pub going_shape : {x : Survey} → ((a p : ℕ) → l ≡ line.Model a p → ⊥)
-          → x ≡ Refused (record { number = 13; side = 0; place = k + 1 }) → told x ≡ survey_told L s
+      pub going_shape : {x : Refusal} → ((a p : ℕ) → l ≡ Some (line.Model a p) → ⊥)
+          → x ≡ record { number = 13; side = 0; place = k + 1 } → refusal x ≡ survey_told L s
       going_shape h q =
           refused_line (no_content n (models_of (take k (said_by L s))) (said_at (said_by L s) k) (λ a p z. h a p (is_line ∙ z))) q
 
       -- an M line
-      module _ {a p : ℕ} (hm : l ≡ line.Model a p) where
+      module _ {a p : ℕ} (hm : l ≡ Some (line.Model a p)) where
         abbrev model : Model
         model = (known_content (said_at (said_by L s) k) (sym is_line ∙ hm)).0
 
@@ -170,11 +171,11 @@ module _ (L : Limits) where
         pub going_places : p ≤ L.tokens
         going_places = omega (arith, counted, said_places L s k is_content)
 
-        pub going_range : {x : Survey} → n ≤ a → x ≡ Refused (record { number = 13; side = 0; place = k + 1 }) → told x ≡ survey_told L s
+        pub going_range : {x : Refusal} → n ≤ a → x ≡ record { number = 13; side = 0; place = k + 1 } → refusal x ≡ survey_told L s
         going_range h q = refused_line (rw is_content (symbol_range h)) q
 
-        pub going_again : {x : Survey} → a < n → get_or seen a false ≡ true
-            → x ≡ Refused (record { number = 13; side = 0; place = k + 1 }) → told x ≡ survey_told L s
+        pub going_again : {x : Refusal} → a < n → get_or seen a false ≡ true
+            → x ≡ record { number = 13; side = 0; place = k + 1 } → refusal x ≡ survey_told L s
         going_again h y q = refused_line (rw is_content (symbol_again ((g.marked.tells a (omega (arith, g.small))).yes y))) q
 
         module _ (h : a < n) (y : get_or seen a false ≡ false) where
@@ -215,11 +216,11 @@ module _ (L : Limits) where
           ∙ ap (λ (ms : List Line). length (states n ms)) (sym (models_all (said_by L s)))
           ∙ ap (λ (i : ℕ). length (states n (models_of (take i (said_by L s))))) (sym at_end) ∙ g.states
 
-      pub going_states : {x : Survey} → L.states < c → x ≡ Refused (record { number = 15; side = 0; place = 0 })
-          → told x ≡ survey_told L s
-      going_states h q = ap told q ∙ sym (survey_states L s well (omega (arith, in_all)))
+      pub going_states : {x : Refusal} → L.states < c → x ≡ record { number = 15; side = 0; place = 0 }
+          → refusal x ≡ survey_told L s
+      going_states h q = ap refusal q ∙ sym (survey_states L s well (omega (arith, in_all)))
 
-      pub going_sizes : c ≤ L.states → told (Sizes n t c) ≡ survey_told L s
+      pub going_sizes : c ≤ L.states → told (Ok (record { symbols = n; start = t; states = c })) ≡ survey_told L s
       unfolding start_of
       going_sizes h =
           sym (survey_sizes L s well (λ l. omega (arith, in_all)) ∙ rw (sym symbols, g.says, rw (sym symbols) at in_all) refl)

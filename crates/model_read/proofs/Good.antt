@@ -19,7 +19,7 @@ use Rattle.model_read.specs.Text.{symbols_of, start_of, said_at, symbols_in, sai
 use Rattle.model_read.specs.Text.{HeadWrong, no_head, model_first, head_range, LineWrong, no_shape, second_head, symbol_range, symbol_again}
 use Rattle.model_read.specs.Text.{WrongAt, WellFormed}
 use Rattle.model_read.specs.declared.Survey.{Survey}
-use Rattle.model_read.specs.declared.Survey.TheVariants.{Sizes, Refused}
+use Rattle.std.specs.Prelude.{Result, Ok, Err}
 use Rattle.model_read.proofs.Exact.{refused_not_sizes, Surveyed, refused_with, good, surveyed, survey_sizes}
 use Rattle.model_read.proofs.Said.{symbols_said, symbols_head, said_symbols, said_places}
 use Rattle.model_read.proofs.Models.{models_first, models_more, models_all, new_model}
@@ -195,9 +195,9 @@ sized L s {y} {t} {n} (good w h) e =
     let c : n ≡ length (states (symbols_in L s) (models_of (said_by L s))) = cc in
     record { well_formed = w; symbols = a; start = b; states = c; few = omega arith }
 
-module _ (L : Limits) (s : List ℕ) {r : Survey} (e : told r ≡ survey_told L s) where
-  pub survey_known : {y t n : ℕ} → r ≡ Sizes y t n → Sized L s y t n
+module _ (L : Limits) (s : List ℕ) {r : Result Survey Refusal} (e : told r ≡ survey_told L s) where
+  pub survey_known : {v : Survey} → r ≡ Ok v → Sized L s v.symbols v.start v.states
   survey_known q = sized L s (surveyed L s) (sym (ap told q) ∙ e)
 
-  pub survey_refused : {x : Refusal} → r ≡ Refused x → survey_told L s ≡ refused x.number x.side x.place
+  pub survey_refused : {x : Refusal} → r ≡ Err x → survey_told L s ≡ refused x.number x.side x.place
   survey_refused q = sym e ∙ ap told q

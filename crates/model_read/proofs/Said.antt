@@ -13,10 +13,10 @@ use Rattle.lines.proofs.LinesLaws.{lines_at, line_part}
 use Rattle.lines.proofs.Tests.{split}
 use Rattle.model.specs.Model.{Model, bears, places}
 use Rattle.postfix.proofs.Written.{model_symbols, model_places}
-use Rattle.model_line.specs.Line.{Said, head, content, misshapen, letter_d, split_of, token_field, head_said_of, content_said, model_said}
+use Rattle.model_line.specs.Line.{Said, Cut, head, content, misshapen, letter_d, split_of, token_field, head_said_of, content_said, model_said}
 use Rattle.model_line.specs.Line.{says, line_of}
-use Rattle.model_line.specs.declared.Cut.{Cut}
-use Rattle.model_line.specs.declared.Cut.TheVariants.{Field, Misshapen}
+use Rattle.std.specs.Prelude as std
+use Rattle.std.specs.Prelude.{Some, None}
 use Rattle.model_line.specs.declared.Line.{Line}
 use Rattle.model_line.proofs.LineLaws.{line_empty, known_misshapen}
 use Rattle.model_line.proofs.Known.{says_head, says_content}
@@ -39,8 +39,8 @@ module _ (L : Limits) (x : List ℕ) where
 
   model_none : (n : ℕ) (c : Cut) → symbols_of (model_said L n x c) ≡ 0
   unfolding symbols_of model_said
-  model_none n (Field a i) = content_symbols a _
-  model_none n Misshapen = refl
+  model_none n (Some (a, i)) = content_symbols a _
+  model_none n None = refl
 
   symbols_anyway : (n m : ℕ) → symbols_of (says L n x) ≡ symbols_of (says L m x)
   unfolding says
@@ -92,7 +92,7 @@ module _ (L : Limits) {s : List ℕ} {k at : ℕ} (g : Starts s k at) where
   line_missing h =
       omega (arith, ap length (sym g.rest ∙ ap lines (drop_of_length-le s h)), length-drop k (lines s), length_said L s)
 
-  pub line_says : {n e : ℕ} {l : Line} → e ≡ line_end_of at (drop at s) → n ≡ symbols_in L s
+  pub line_says : {n e : ℕ} {l : std.Option Line} → e ≡ line_end_of at (drop at s) → n ≡ symbols_in L s
       → l ≡ line_of (says L n (take (e - at) (drop at s))) → l ≡ line_of (said_at (said_by L s) k)
   line_says {n} q i h =
       h ∙ ap (λ (x : List ℕ). line_of (says L n x)) (line_part g q).2

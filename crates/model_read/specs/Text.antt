@@ -1,5 +1,5 @@
 -- What a model text says, and what is wrong in 13 and 15.
-use Rattle.std.specs.Prelude.{ℕ, zero, suc, ◌-◌, ◌+◌, ◌≤◌, ◌<◌, ◌≡◌, ◌⊎◌, List, [], ◌∷◌, map, length, get_or, take}
+use Rattle.std.specs.Prelude.{ℕ, zero, suc, ◌-◌, ◌+◌, ◌≤◌, ◌<◌, ◌≡◌, ◌⊎◌, List, [], ◌∷◌, map, length, get_or, take, Result, Ok, Err}
 use Rattle.std.proofs.Math.Logic.{ite}
 use Rattle.std.proofs.Math.Decide.{ℕ_discrete, dec_le, dec_lt}
 use Rattle.paper.specs.Limits.{Limits}
@@ -12,7 +12,7 @@ use Rattle.model_line.specs.Line.{Said, head, content, misshapen, says}
 use Rattle.compiled.specs.States.{states}
 use Rattle.model.specs.Documents.{Line}
 use Rattle.model_read.specs.declared.Survey.{Survey}
-use Rattle.model_read.specs.declared.Survey.TheVariants.{Sizes, Refused}
+use Rattle.paper.specs.declared.Refusal.{Refusal}
 
 -- the symbols and the start that a header says; none without a header
 unfoldable pub symbols_of : Said → ℕ
@@ -126,6 +126,6 @@ pub data SurveyRefused (L : Limits) (s : List ℕ) : ℕ → ℕ → ℕ → Typ
   too_many_states : WellFormed L s → TooManyStates L (symbols_in L s) (models_of (said_by L s)) → SurveyRefused L s 15 0 0
 
 -- what the survey's answer tells
-abbrev pub told : Survey → Told
-told (Sizes y s n) = sizes y s n
-told (Refused x) = refusal x
+abbrev pub told : Result Survey Refusal → Told
+told (Ok x) = sizes x.symbols x.start x.states
+told (Err r) = refusal r

@@ -9,24 +9,14 @@ ghost use Rattle.model_read.specs.Text.{BadHead, survey_told, told};
 ghost use Rattle.model_read.specs.Work.{Headed};
 
 use model_line::Line;
-use paper::Refusal;
+use paper::{Fault, Refusal};
 
-// What a model text asks for: its symbols, its start and the states of its table; or a refusal.
-#[derive(Drop)]
-pub enum Survey {
-    Sizes(u16, u16, usize),
-    Refused(Refusal),
-}
-
-// A refusal at a place.
-fn refuse(number: u16, place: usize) -> Survey
-    ensures { result ≡ Survey.Refused (record { number = number; side = 0; place = place }) }
-{
-    Survey::Refused(Refusal {
-        number,
-        side: 0,
-        place,
-    })
+// What a model text asks for: its symbols, its start and the states of its table.
+#[derive(Clone, Copy, PartialEq, Eq)]
+pub struct Survey {
+    pub symbols: u16,
+    pub start: u16,
+    pub states: usize,
 }
 
 // Are the symbols of a header outside their limits, or is its start not below them?
@@ -43,7 +33,7 @@ fn bad_head(symbols: u16, start: u16) -> bool
 }
 
 // Reads the lines behind the header, from `from` on.
-fn survey_rest(text: &[u8], from: usize, symbols: u16, start: u16) -> Survey
+fn survey_rest(text: &[u8], from: usize, symbols: u16, start: u16) -> Result<Survey, Refusal>
     requires { Headed limits text.now symbols start from }
     ensures { told result ≡ survey_told limits text.now }
 {
@@ -51,41 +41,44 @@ fn survey_rest(text: &[u8], from: usize, symbols: u16, start: u16) -> Survey
     let mut at = from;
     let mut k = 1;
     let mut states = symbols as usize;
+    // Kept: a while, since a line's length varies.
     while at < text.len() {
         let end = lines::line_end(text, at);
         k += 1;
-        let Line::Model(symbol, places) = model_line::read_line(&text[at..end], symbols) else {
-            return refuse(paper::MODEL_TEXT, k);
+        let Some(Line::Model(symbol, places)) = model_line::read_line(&text[at..end], symbols)
+        else {
+            return Err(Refusal::at(Fault::ModelText, k));
         };
         if symbols <= symbol {
-            return refuse(paper::MODEL_TEXT, k);
+            return Err(Refusal::at(Fault::ModelText, k));
         }
         if seen[symbol as usize] {
-            return refuse(paper::MODEL_TEXT, k);
+            return Err(Refusal::at(Fault::ModelText, k));
         }
         seen[symbol as usize] = true;
         states += 1 + places;
         at = end;
     }
     if paper::STATES < states {
-        return refuse(paper::MODEL_STATES, 0);
+        return Err(Refusal::at(Fault::ModelStates, 0));
     }
-    Survey::Sizes(symbols, start, states)
+    Ok(Survey {
+        symbols,
+        start,
+        states,
+    })
 }
 
 // Reads a model text: its refusals 13 and 15, or its sizes.
-pub fn survey_text(text: &[u8]) -> Survey
+pub fn survey_text(text: &[u8]) -> Result<Survey, Refusal>
     ensures { told result ≡ survey_told limits text.now }
 {
     let end = lines::line_end(text, 0);
-    match model_line::read_line(&text[0..end], 0) {
-        Line::Head(symbols, start) => {
-            if bad_head(symbols, start) {
-                return refuse(paper::MODEL_TEXT, 1);
-            }
-            survey_rest(text, end, symbols, start)
-        }
-        Line::Model(_, _) => refuse(paper::MODEL_TEXT, 1),
-        Line::Misshapen => refuse(paper::MODEL_TEXT, 1),
+    let Some(Line::Head(symbols, start)) = model_line::read_line(&text[0..end], 0) else {
+        return Err(Refusal::at(Fault::ModelText, 1));
+    };
+    if bad_head(symbols, start) {
+        return Err(Refusal::at(Fault::ModelText, 1));
     }
+    survey_rest(text, end, symbols, start)
 }

@@ -15,10 +15,10 @@ use Rattle.lines.proofs.Tests.{split}
 use Rattle.model.specs.Model.{Model, places}
 use Rattle.model.specs.Sets.{comes}
 use Rattle.postfix.specs.Field.{model_in, content_of}
-use Rattle.postfix.specs.declared.Content.{Content}
-use Rattle.postfix.specs.declared.Content.TheVariants as content
+use Rattle.std.specs.Prelude as std
+use Rattle.std.specs.Prelude.{Some, None}
+use Rattle.std.proofs.lemmas.Option.{none-some}
 use Rattle.model_sets.specs.Sets.{flag, Room, room?, answer_of, Holds, Fills}
-use Rattle.model_sets.specs.declared.Sets.TheVariants.{Places, Unfit}
 use Rattle.model_sets.specs.Work.{is_set, Painted, Changed, cleared, corner}
 use Rattle.model_sets.specs.Stack.{Begins}
 use Rattle.model_sets.proofs.Painting.{in_within, high_within}
@@ -32,20 +32,14 @@ module _ {r : Bool} {P : Type 0} (t : Tells r P) where
   told_no e = t.no (not-true r e)
 
 -- what the reader of the model says
-pub places_unfit : {k : ℕ} → Unfit ≡ Places k → ⊥
-places_unfit e = let z : ◌≡◌ {A = ℕ} 0 1 = cc in omega arith
-
-bad_places : {k : ℕ} → content.Bad ≡ content.Places k → ⊥
-bad_places e = let z : ◌≡◌ {A = ℕ} 0 1 = cc in omega arith
-
-no_model : (o : Option Model) → content.Bad ≡ content_of o → o ≡ none
+no_model : (o : Option Model) → None ≡ content_of o → o ≡ none
 unfolding content_of
 no_model none e = refl
-no_model (some m) e = absurd (bad_places e)
+no_model (some m) e = absurd (none-some _ e)
 
-a_model : (o : Option Model) {p : ℕ} → content.Places p ≡ content_of o → (m : Model) × ((o ≡ some m) × (places m ≡ p))
+a_model : (o : Option Model) {p : ℕ} → Some p ≡ content_of o → (m : Model) × ((o ≡ some m) × (places m ≡ p))
 unfolding content_of
-a_model none e = absurd (bad_places (sym e))
+a_model none e = absurd (none-some _ (sym e))
 a_model (some m) e = (m, (refl, cc))
 
 -- the stretches that are clear
@@ -86,23 +80,23 @@ over s m {B} {E} {N} x y h =
 
 module _ (L : Limits) (n : ℕ) (f B E N : List ℕ) where
   -- nothing is changed
-  unfilled : Unfit ≡ answer_of L.states (model_in L n f) (length B) (length E) (length N) → Fills L n f B E N Unfit B E N
-  unfilled e = record { answer = e; filled = λ a b. absurd (places_unfit b); unfit = λ a. (refl, (refl, refl)) }
+  unfilled : None ≡ answer_of L.states (model_in L n f) (length B) (length E) (length N) → Fills L n f B E N None B E N
+  unfilled e = record { answer = e; filled = λ a b. absurd (none-some _ b); unfit = λ a. (refl, (refl, refl)) }
 
-  module _ {r : Content} (e : r ≡ content_of (model_in L n f)) where
-    pub fills_bad : r ≡ content.Bad → Fills L n f B E N Unfit B E N
+  module _ {r : std.Option ℕ} (e : r ≡ content_of (model_in L n f)) where
+    pub fills_bad : r ≡ None → Fills L n f B E N None B E N
     unfolding answer_of
     fills_bad q = unfilled (rw (no_model (model_in L n f) (sym q ∙ e)) refl)
 
-    module _ {p : ℕ} (q : r ≡ content.Places p) where
+    module _ {p : ℕ} (q : r ≡ Some p) where
       found : (m : Model) × ((model_in L n f ≡ some m) × (places m ≡ p))
       found = a_model (model_in L n f) (sym q ∙ e)
 
-      pub fills_full : ¬ Room L.states p (length B) (length E) (length N) → Fills L n f B E N Unfit B E N
+      pub fills_full : ¬ Room L.states p (length B) (length E) (length N) → Fills L n f B E N None B E N
       unfolding answer_of
       fills_full h =
           unfilled
-          (rw (found.1.0, found.1.1) (sym (if_neg (room? L.states p (length B) (length E) (length N)) h (Places p) Unfit)))
+          (rw (found.1.0, found.1.1) (sym (if_neg (room? L.states p (length B) (length E) (length N)) h (Some p) None)))
 
       module _ (h : Room L.states p (length B) (length E) (length N)) {E₁ N₁ : List ℕ} (x : Painted 0 (cleared 0 0 (p + 1)) E E₁)
           (y : Changed L.states 0 (corner (p + 1) p) N N₁) where
@@ -118,16 +112,16 @@ module _ (L : Limits) (n : ℕ) (f B E N : List ℕ) where
             }
 
         pub fills_sets : {B' E' N' : List ℕ} → ((m : Model) → model_in L n f ≡ some m → Holds L.states m B E₁ N₁ B' E' N')
-            → Fills L n f B E N (Places p) B' E' N'
+            → Fills L n f B E N (Some p) B' E' N'
         unfolding answer_of
         fills_sets {B'} {E'} {N'} g =
             record {
               answer = rw (found.1.0, found.1.1)
-                  (sym (if_pos (room? L.states p (length B) (length E) (length N)) h (Places p) Unfit));
+                  (sym (if_pos (room? L.states p (length B) (length E) (length N)) h (Some p) None));
               filled = λ {m} {k} a b.
                   let z : some m ≡ some found.0 = sym a ∙ found.1.0 in
                   let w : m ≡ found.0 = cc in
                   let v : p ≡ places m = sym found.1.1 ∙ ap places (sym w) in
                   over L.states m (rw (← v) x) (rw (← v) y) (g m a);
-              unfit = λ a. absurd (places_unfit (sym a));
+              unfit = λ a. absurd (none-some _ (sym a));
             }

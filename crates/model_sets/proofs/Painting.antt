@@ -148,9 +148,6 @@ module _ (N : List ℕ) (row a : ℕ) where
         (λ q. rw q (here ∙ ap not (eq-eqb (at N y) 0 (sym source ∙ z)) ∙ sym past))
         (λ q. else j q))
 
-  pub row_end : (N' : List ℕ) (y b : ℕ) → y ≡ b → Painted 1 (rowed N row a y) N N' → Painted 1 (rowed N row a b) N N'
-  row_end N' y b e g = rw (sym e) g
-
 -- the loop of `clear_rows`
 module _ (s p : ℕ) (w : p ≤ s) (N : List ℕ) where
   pub rows_start : Changed s 0 (corner 0 p) N N
@@ -190,9 +187,6 @@ module _ (s p : ℕ) (w : p ≤ s) (N : List ℕ) where
             rw (row_tested i y h, q, eq-eqb k k refl, row_whole y)
             (ap (cond (corner (k + 1) p k y) 0) (g.cell k y h ∙ rw (row_none y) refl))
         go i y h (no d) = rw (row_tested i y h, ne_eqb i k d, sym (row_else i y d)) (g.cell i y h)
-
-  pub rows_end : (k k' : ℕ) (N' : List ℕ) → k ≡ k' → Changed s 0 (corner k p) N N' → Changed s 0 (corner k' p) N N'
-  rows_end k k' N' e g = rw (sym e) g
 
 -- the loop of `link`
 module _ (s : ℕ) (E N : List ℕ) (c a b : ℕ) where
@@ -247,6 +241,3 @@ module _ (s : ℕ) (E N : List ℕ) (c a b : ℕ) where
         go : (i y : ℕ) → Dec (i ≡ k) → joined E N c k a b i y ≡ joined E N c (k + 1) a b i y
         go i y (yes q) = rw q (before y ∙ sym (same y ∙ rw (eq-eqb (at E k) 0 z) refl))
         go i y (no d) = sym (other i y d)
-
-  pub link_end : (k d : ℕ) (N' : List ℕ) → k ≡ d → Changed s 1 (joined E N c k a b) N N' → Changed s 1 (joined E N c d a b) N N'
-  link_end k d N' e g = rw (sym e) g

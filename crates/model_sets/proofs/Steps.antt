@@ -5,7 +5,7 @@ use mathlib.Core.Bool.{Bool, true, false, cond, ◌&&◌, ◌||◌}
 use mathlib.Core.List.{List, ◌∷◌}
 use native.Mathlib.Nat.{mul-le-mul_right, add-mul}
 use native.Mathlib.Omega.{arith}
-use lib.ListN.{length, set, length-append}
+use lib.ListN.{length, set}
 use Rattle.paper.specs.Limits.{Limits, at}
 use Rattle.model.specs.Model.{Model, symbol, empty, sequence, choice, star, maybe, plus, symbols}
 use Rattle.model.specs.Sets.{nullable}
@@ -127,24 +127,6 @@ module _ (L : Limits) {t : Token} {E N F G : List ℕ} {d n : ℕ} (y : Ready L 
                 y.fits.ends y.fits.next;
           }
 
-  pub takes_sequence : t ≡ Comma → Takes-two L E N F G d n
-  takes_sequence e = takes_two sequence (λ l r. length-append (symbols l) (symbols r)) (λ st. ap (λ (x : Token). push x st) e)
-
-  pub takes_choice : t ≡ Bar → Takes-two L E N F G d n
-  takes_choice e = takes_two choice (λ l r. length-append (symbols l) (symbols r)) (λ st. ap (λ (x : Token). push x st) e)
-
-  pub takes_star : t ≡ Star → Takes-one L E N F G d n
-  takes_star e = takes_one star (λ m. refl) (λ st. ap (λ (x : Token). push x st) e)
-
-  pub takes_maybe : t ≡ Query → Takes-one L E N F G d n
-  takes_maybe e = takes_one maybe (λ m. refl) (λ st. ap (λ (x : Token). push x st) e)
-
-  pub takes_plus : t ≡ Plus → Takes-one L E N F G d n
-  takes_plus e = takes_one plus (λ m. refl) (λ st. ap (λ (x : Token). push x st) e)
-
-  pub ready_as : {t' : Token} → t ≡ t' → Ready L t' E N F G d n
-  ready_as e = subst (λ (x : Token). Ready L x E N F G d n) e y
-
 module _ (L : Limits) {p : ℕ} {E₀ N₀ : List ℕ} {E N F G : List ℕ} {d n : ℕ} where
   -- a symbol
   place_inside : (a : ℕ) {st st' : List Model} → Fits L (Symbol a) p E₀ N₀ st st' E N F G d n → n < p
@@ -173,11 +155,6 @@ module _ (L : Limits) {p : ℕ} {E₀ N₀ : List ℕ} {E N F G : List ℕ} {d n
             (coming_symbol st a));
         kept = kept_push F G st (symbol a) d n 0 g.height g.count h.starts h.empties refl g.kept;
       })
-
-  pub takes_none : (a : ℕ) {st st' : List Model} → Fits L (Symbol a) p E₀ N₀ st st' E N F G d n → Takes-none E N F G d n
-  takes_none a h =
-      let o = place_inside a h in
-      record { ends = omega (arith, o, h.ends); next = omega (arith, o, h.next); starts = h.starts; empties = h.empties }
 
   -- `e`
   empty_stepped : {st st' : List Model} → Fits L Empty p E₀ N₀ st st' E N F G d n

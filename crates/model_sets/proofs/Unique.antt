@@ -12,9 +12,9 @@ use Rattle.paper.specs.Limits.{Limits, at}
 use Rattle.model.specs.Model.{Model}
 use Rattle.postfix.specs.Field.{model_in}
 use Rattle.model_sets.specs.Sets.{answer_of, Holds, Fills}
-use Rattle.model_sets.specs.declared.Sets.{Sets}
-use Rattle.model_sets.specs.declared.Sets.TheVariants.{Places, Unfit}
-use Rattle.model_sets.proofs.Filling.{places_unfit}
+use Rattle.std.specs.Prelude as std
+use Rattle.std.specs.Prelude.{Some, None}
+use Rattle.std.proofs.lemmas.Option.{none-some}
 
 -- every index is a row and a column
 pub rows_same : (s : ℕ) (N N' : List ℕ) → s ≢ 0 → length N ≡ length N' → ((i y : ℕ) → y < s → i * s + y < length N → at N (i * s + y) ≡ at N' (i * s + y)) → N ≡ N'
@@ -35,22 +35,22 @@ holds_unique s m B E N {B₁} {E₁} {N₁} {B₂} {E₂} {N₂} d x y = (
   ),
 )
 
-answer_none : (s b e n : ℕ) {o : Option Model} {k : ℕ} → o ≡ none → Places k ≡ answer_of s o b e n → ⊥
+answer_none : (s b e n : ℕ) {o : Option Model} {k : ℕ} → o ≡ none → Some k ≡ answer_of s o b e n → ⊥
 unfolding answer_of
-answer_none s b e n z q = places_unfit (sym (q ∙ ap (λ (x : Option Model). answer_of s x b e n) z))
+answer_none s b e n z q = none-some _ (sym (q ∙ ap (λ (x : Option Model). answer_of s x b e n) z))
 
-pub fills_unique : (L : Limits) (n : ℕ) (f B E N : List ℕ) {r₁ r₂ : Sets} {B₁ E₁ N₁ B₂ E₂ N₂ : List ℕ} → L.states ≢ 0
+pub fills_unique : (L : Limits) (n : ℕ) (f B E N : List ℕ) {r₁ r₂ : std.Option ℕ} {B₁ E₁ N₁ B₂ E₂ N₂ : List ℕ} → L.states ≢ 0
     → Fills L n f B E N r₁ B₁ E₁ N₁ → Fills L n f B E N r₂ B₂ E₂ N₂ → (r₁ ≡ r₂) × ((B₁ ≡ B₂) × ((E₁ ≡ E₂) × (N₁ ≡ N₂)))
 fills_unique L n f B E N {r₁} {r₂} {B₁} {E₁} {N₁} {B₂} {E₂} {N₂} d x y =
     let q : r₁ ≡ r₂ = x.answer ∙ sym y.answer in (q, of_answer r₁ refl q)
   where
-    of_model : (k : ℕ) → r₁ ≡ Places k → r₂ ≡ Places k → (o : Option Model) → model_in L n f ≡ o → (B₁ ≡ B₂) × ((E₁ ≡ E₂) × (N₁ ≡ N₂))
+    of_model : (k : ℕ) → r₁ ≡ Some k → r₂ ≡ Some k → (o : Option Model) → model_in L n f ≡ o → (B₁ ≡ B₂) × ((E₁ ≡ E₂) × (N₁ ≡ N₂))
     of_model k a b none e = absurd (answer_none L.states (length B) (length E) (length N) e (sym a ∙ x.answer))
     of_model k a b (some m) e = holds_unique L.states m B E N d (x.filled e a) (y.filled e b)
 
-    of_answer : (r : Sets) → r₁ ≡ r → r₁ ≡ r₂ → (B₁ ≡ B₂) × ((E₁ ≡ E₂) × (N₁ ≡ N₂))
-    of_answer (Places k) a q = of_model k a (sym q ∙ a) (model_in L n f) refl
-    of_answer Unfit a q =
+    of_answer : (r : std.Option ℕ) → r₁ ≡ r → r₁ ≡ r₂ → (B₁ ≡ B₂) × ((E₁ ≡ E₂) × (N₁ ≡ N₂))
+    of_answer (Some k) a q = of_model k a (sym q ∙ a) (model_in L n f) refl
+    of_answer None a q =
         let u = x.unfit a in
         let v = y.unfit (sym q ∙ a) in
         (u.0 ∙ sym v.0, (u.1.0 ∙ sym v.1.0, u.1.1 ∙ sym v.1.1))

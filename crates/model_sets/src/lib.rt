@@ -3,7 +3,7 @@
 // of flags and one flag a position serve all of them at once.
 #![tactic(auto)]
 
-ghost use Rattle.std.specs.Prelude.{◌≡◌, cond, ℕ, ◌+◌, ◌*◌, ◌-◌, ◌≤◌, ◌<◌, length, set};
+ghost use Rattle.std.specs.Prelude.{◌≡◌, ℕ, ◌+◌, ◌*◌, ◌-◌, ◌≤◌, ◌<◌, length, set};
 ghost use Rattle.std.proofs.Math.Option.{some};
 ghost use Rattle.paper.specs.Told.{Tells};
 ghost use Rattle.paper.specs.Limits.{limits};
@@ -11,18 +11,11 @@ ghost use Rattle.model.specs.declared.Token.TheVariants.{Symbol, Comma};
 ghost use Rattle.model.specs.Model.{Model};
 ghost use Rattle.postfix.specs.Field.{model_in};
 ghost use Rattle.model_sets.specs.Sets.{Room, Holds, Fills};
-ghost use Rattle.model_sets.specs.Work.{is_set, Painted, Changed, cleared, corner, rowed, joined, Joinable};
+ghost use Rattle.model_sets.specs.Work.{Painted, Changed, cleared, corner, rowed, joined, Joinable};
 ghost use Rattle.model_sets.specs.Stack.{Ready, Steps, bearing, Begins};
 
 use model::Token;
-use postfix::{Content, Reading};
-
-// What is found: a model of so many places, whose sets stand in the slices; or no model, or no room for it.
-#[derive(Drop)]
-pub enum Sets {
-    Places(usize),
-    Unfit,
-}
+use postfix::Reading;
 
 // How far the scan is: so many models on the stack, and so many places in them.
 #[derive(Drop)]
@@ -39,10 +32,8 @@ fn clear(flags: &mut [u16], kept: u16, a: usize, b: usize)
     if kept != 0 {
         return;
     }
-    let mut j = a;
-    while j < b {
+    for j in a..b {
         flags[j] = 0;
-        j += 1;
     }
 }
 
@@ -51,11 +42,9 @@ fn clear_rows(next: &mut [u16], p: usize)
     requires { (p ≤ limits.states) × (p * limits.states + p ≤ length next.old) }
     ensures { Changed limits.states 0 (corner (p + 1) p) next.old next.new }
 {
-    let mut i = 0;
-    while i <= p {
+    for i in 0..p + 1 {
         let row = i * paper::STATES;
         clear(next, 0, row, row + p);
-        i += 1;
     }
 }
 
@@ -64,12 +53,10 @@ fn link_row(next: &mut [u16], row: usize, a: usize, b: usize)
     requires { (a ≤ b) × ((b ≤ row) × (row + b ≤ length next.old)) }
     ensures { Painted 1 (rowed next.old row a b) next.old next.new }
 {
-    let mut y = a;
-    while y < b {
+    for y in a..b {
         if next[y] != 0 {
             next[row + y] = 1;
         }
-        y += 1;
     }
 }
 
@@ -79,12 +66,10 @@ fn link(ends: &[u16], next: &mut [u16], c: usize, d: usize, a: usize, b: usize)
     ensures { Changed limits.states 1 (joined ends.now next.old c d a b)
         next.old next.new }
 {
-    let mut i = c;
-    while i < d {
+    for i in c..d {
         if ends[i] != 0 {
             link_row(next, i * paper::STATES, a, b);
         }
-        i += 1;
     }
 }
 
@@ -102,16 +87,6 @@ fn has_room(p: usize, bears: usize, ends: usize, next: usize) -> bool
         return false;
     }
     p * paper::STATES + p <= next
-}
-
-// One flag or another, as a third is set or not.
-fn choose(test: u16, yes: u16, no: u16) -> u16
-    ensures { result ≡ cond (is_set test) yes no }
-{
-    if test != 0 {
-        return yes;
-    }
-    no
 }
 
 // Puts one more place on the stack, the first and the last of a model that cannot be empty.
@@ -163,7 +138,7 @@ fn sequence(
     link(ends, next, l + 1, r + 1, r, n);
     clear(next, left, r, n);
     clear(ends, right, l + 1, r + 1);
-    empties[i] = choose(left, right, 0);
+    empties[i] = if left != 0 { right } else { 0 };
     let depth = i + 1;
     Done { depth, places: n }
 }
@@ -196,7 +171,11 @@ fn step(
         Token::Comma => sequence(ends, next, starts, empties, done),
         Token::Bar => {
             let depth = d - 1;
-            empties[d - 2] = choose(empties[d - 2], 1, empties[depth]);
+            empties[d - 2] = if empties[d - 2] != 0 {
+                1
+            } else {
+                empties[depth]
+            };
             Done { depth, places: n }
         }
         Token::Star => {
@@ -242,6 +221,7 @@ fn scan(field: &[u8], symbols: u16, bears: &mut [u16], ends: &mut [u16], next: &
         places: 0,
     };
     let mut at = 0;
+    // Kept: a while, since a token has as many bytes as it likes.
     while at <= field.len() {
         let Reading::One(token, after) = postfix::read_token(field, at, symbols) else {
             return;
@@ -253,26 +233,25 @@ fn scan(field: &[u8], symbols: u16, bears: &mut [u16], ends: &mut [u16], next: &
     ends[0] = empties[0];
 }
 
-// Fills the sets of the model that a field writes over so many symbols; with no model or no room nothing is changed.
+// Fills the sets of the model that a field writes over so many symbols, and answers how many places it has; with no model or no room
+// nothing is changed.
 pub fn fill_sets(
     field: &[u8],
     symbols: u16,
     bears: &mut [u16],
     ends: &mut [u16],
     next: &mut [u16],
-) -> Sets
+) -> Option<usize>
     ensures { Fills limits symbols field.now
         bears.old ends.old next.old result
         bears.new ends.new next.new }
 {
-    let Content::Places(p) = postfix::read_model(field, symbols) else {
-        return Sets::Unfit;
-    };
+    let p = postfix::read_model(field, symbols)?;
     if !has_room(p, bears.len(), ends.len(), next.len()) {
-        return Sets::Unfit;
+        return None;
     }
     clear(ends, 0, 0, p + 1);
     clear_rows(next, p);
     scan(field, symbols, bears, ends, next);
-    Sets::Places(p)
+    Some(p)
 }

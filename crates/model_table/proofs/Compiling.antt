@@ -7,8 +7,7 @@ use mathlib.Core.Logic.{inl, inr, ⊎_elim, if_pos}
 use mathlib.Core.List.{List, ◌++◌}
 use lib.ListN.{length, drop, replicate, length-replicate}
 use Rattle.paper.specs.Limits.{Limits, limits}
-use Rattle.paper.specs.Told.{Told, refused, sizes, is_refusal, after, filled}
-use Rattle.paper.specs.declared.Refusal.{Refusal}
+use Rattle.paper.specs.Told.{Told, refused, sizes, refusal, is_refusal, after, filled}
 use Rattle.paper.specs.First.{first}
 use Rattle.paper.proofs.VerdictLaws.{first_wrong, first_none}
 use Rattle.paper.specs.First.{FirstWrong}
@@ -24,15 +23,14 @@ use Rattle.model_read.proofs.Exact.{refused_not_sizes, survey_sizes, Surveyed, r
 use Rattle.model_read.proofs.Good.{well_lines, well_symbols}
 use Rattle.model_fill.specs.Ambiguity.{models_in, start_in, ambiguity_at, AmbiguousAt}
 use Rattle.model_fill.specs.Kept.{no_symbol_of, Long, Kept}
-use Rattle.model_fill.specs.Fill.{long?, fill_told, FillsStates}
+use Rattle.model_fill.specs.Fill.{Filling, long?, fill_told, refusal_of, FillsStates}
 use Rattle.model_fill.specs.Fill as fill
-use Rattle.model_fill.specs.declared.Filling.{Filling}
-use Rattle.model_fill.specs.declared.Filling.TheVariants as found
+use Rattle.model_fill.specs.declared.Unfilled.{Unfilled}
+use Rattle.model_read.specs.declared.Survey.{Survey}
 use Rattle.model_fill.proofs.Ambiguities.{ambiguity_verdict}
-use Rattle.model_table.specs.Compile.{the_marks_by, rules_by, compile_told, Fit, told, Compiles}
+use Rattle.model_table.specs.Compile.{the_marks_by, rules_by, compile_told, Fit, Compiled, told, Compiles}
 use Rattle.model_table.specs.Work.{marks_for, the_numbers_by, Roomy, the_count_by}
-use Rattle.model_table.specs.declared.Compiled.{Compiled}
-use Rattle.model_table.specs.declared.Compiled.TheVariants.{Table}
+use Rattle.std.specs.Prelude.{Ok, Err}
 use Rattle.model_table.proofs.Rest.{front_put}
 use Rattle.model_table.proofs.ByKept.{numbers_by, count_by, marks_by}
 use Rattle.model_table.proofs.Exact.{compile_survey, compile_ambiguous, compile_rules, compile_table, first_ambiguous}
@@ -99,82 +97,75 @@ module _ (L : Limits) (s M W : List ℕ) {B O E N : List ℕ} (room : ¬ NoRoom 
         go (refused_both f c) = c ∙ sym f ∙ tells
         go (sized f h g) = absurd (refused_not_sizes (sym g ∙ tells))
 
-    pub fill_refused : {x : Refusal} → q ≡ found.Refused x → compile_told L s M W ≡ refused x.number x.side x.place
+    pub fill_refused : {u : Unfilled} → q ≡ Err u → compile_told L s M W ≡ refusal (refusal_of u)
     unfolding fill.told
     fill_refused e = refused_told (ap fill.told e)
 
-    pub fill_ambiguous : {k : ℕ} → q ≡ found.Ambiguous k → compile_told L s M W ≡ refused 14 0 k
-    unfolding fill.told
-    fill_ambiguous e = refused_told (ap fill.told e)
-
-    pub fill_unfit : q ≡ found.Unfit → ⊥
-    fill_unfit e = (fills.unfit e).0 long
-
-    module _ {y t n : ℕ} (e : q ≡ found.Sizes y t n) where
+    module _ {v : Survey} (e : q ≡ Ok v) where
       record Read : Type 0 where
         fit : Fit L s M W
         clear : (j : ℕ) → ¬ AmbiguousAt (said_by L s) j
-        symbols : y ≡ symbols_in L s
-        start : t ≡ start_in L s
-        count : n ≡ length (states (symbols_in L s) (models_in L s))
+        symbols : v.symbols ≡ symbols_in L s
+        start : v.start ≡ start_in L s
+        count : v.states ≡ length (states (symbols_in L s) (models_in L s))
 
       read : Read
       unfolding fill.told
       read = go alike
         where
-          tells : fill_told L s B O E N ≡ sizes y t n
+          tells : fill_told L s B O E N ≡ sizes v.symbols v.start v.states
           tells = sym fills.answer ∙ ap fill.told e
 
           go : Alike → Read
           go (refused_both f c) = absurd (refused_not_sizes (sym tells ∙ f))
           go (sized f h g) =
               let w = sym tells ∙ g in
-              let a : y ≡ symbols_in L s = cc in
-              let b : t ≡ start_in L s = cc in
-              let c : n ≡ length (states (symbols_in L s) (models_in L s)) = cc in
+              let a : v.symbols ≡ symbols_in L s = cc in
+              let b : v.start ≡ start_in L s = cc in
+              let c : v.states ≡ length (states (symbols_in L s) (models_in L s)) = cc in
               record { fit = f; clear = h; symbols = a; start = b; count = c }
 
-      pub states_few : n ≤ L.states
+      pub states_few : v.states ≤ L.states
       states_few = let f = read.fit.states in omega (arith, read.count)
 
       pub still_long : Long L.states B' O' E' N'
       still_long = (fills.whole e).long
 
-      pub marks_room : n ≤ length M
+      pub marks_room : v.states ≤ length M
       marks_room = roomy read.fit.room
         where
-          roomy : ¬ NoRoom L M W → n ≤ length M
+          roomy : ¬ NoRoom L M W → v.states ≤ length M
           roomy h = let g : ¬ (length M < L.states) = λ x. h (inl x) in omega (arith, states_few)
 
       module _ (small : L.symbols ≤ no_symbol_of) (four : L.width ≡ 4) where
-        good_lines : GoodLines y (models_in L s)
+        good_lines : GoodLines v.symbols (models_in L s)
         unfolding models_in
         good_lines = rw read.symbols (well_lines L s read.fit.well_formed)
 
-        few_symbols : y ≤ no_symbol_of
+        few_symbols : v.symbols ≤ no_symbol_of
         few_symbols = omega (arith, read.symbols, (well_symbols L s read.fit.well_formed).1)
 
-        same_states : n ≡ length (states y (models_in L s))
+        same_states : v.states ≡ length (states v.symbols (models_in L s))
         same_states = rw read.symbols read.count
 
-        kept : Kept L.states (states y (models_in L s)) B' O' E' N'
+        kept : Kept L.states (states v.symbols (models_in L s)) B' O' E' N'
         kept = rw read.symbols (fills.whole e)
 
-        within : length (states y (models_in L s)) ≤ L.states
+        within : length (states v.symbols (models_in L s)) ≤ L.states
         within = omega (arith, states_few, same_states)
 
-        pub all_counted : the_count_by L.states n B' O' E' N' ≡ length (rules (symbols_in L s) (models_in L s))
+        pub all_counted : the_count_by L.states v.states B' O' E' N' ≡ length (rules (symbols_in L s) (models_in L s))
         all_counted =
             ap (λ (i : ℕ). the_count_by L.states i B' O' E' N') same_states ∙ count_by good_lines few_symbols within kept
             ∙ ap (λ (i : ℕ). length (rules i (models_in L s))) read.symbols
 
-        all_numbers : the_numbers_by L.states y n B' O' E' N' ≡ rules_by L s
+        all_numbers : the_numbers_by L.states v.symbols v.states B' O' E' N' ≡ rules_by L s
         unfolding the_numbers_by rules_by
         all_numbers =
-            ap (λ (i : ℕ). the_numbers_by L.states y i B' O' E' N') same_states ∙ numbers_by good_lines few_symbols within kept
+            ap (λ (i : ℕ). the_numbers_by L.states v.symbols i B' O' E' N') same_states ∙ numbers_by good_lines few_symbols within kept
             ∙ ap (λ (i : ℕ). numbers (rules i (models_in L s))) read.symbols
 
-        module _ {count : ℕ} (c : count ≡ the_count_by L.states n B' O' E' N') where
+        module _ {count : ℕ} (c : count ≡ the_count_by L.states v.states B' O' E' N') where
           counts : count ≡ length (rules (symbols_in L s) (models_in L s))
           counts = c ∙ all_counted
 
@@ -194,17 +185,17 @@ module _ (L : Limits) (s M W : List ℕ) {B O E N : List ℕ} (room : ¬ NoRoom 
                     let g : ¬ (length W < L.rules * L.width) = λ x. h (inr x) in
                     omega (arith, size, mul-le-mul_right L.width few)
 
-            pub rules_room : Roomy L.states y n B' O' E' N' W
+            pub rules_room : Roomy L.states v.symbols v.states B' O' E' N' W
             rules_room = rw all_numbers room_rules
 
-            pub compiles_table : {M' W' : List ℕ} {z : ℕ} → M' ≡ marks_for y t n ++ drop n M
-                → Put W 0 (the_numbers_by L.states y n B' O' E' N') z W' → Compiles L s M W (Table y n count) M' W'
+            pub compiles_table : {M' W' : List ℕ} {z : ℕ} → M' ≡ marks_for v.symbols v.start v.states ++ drop v.states M
+                → Put W 0 (the_numbers_by L.states v.symbols v.states B' O' E' N') z W' → Compiles L s M W (Ok (record { symbols = v.symbols; states = v.states; rules = count })) M' W'
             unfolding filled is_refusal the_marks_by
             compiles_table {M'} {W'} m p =
                 let tells = compile_table L s M W read.fit read.clear (λ h. let k = counts in omega arith) in
-                let marked : marks_for y t n ≡ the_marks_by L s =
+                let marked : marks_for v.symbols v.start v.states ≡ the_marks_by L s =
                 rw (read.symbols, read.start, read.count) (marks_by (symbols_in L s) (start_in L s) (models_in L s)) in
-                let long-marks : length (the_marks_by L s) ≡ n =
+                let long-marks : length (the_marks_by L s) ≡ v.states =
                 length_marks (start_in L s) (symbols_in L s) (models_in L s) ∙ sym read.count in
                 record {
                   answer = rw (read.symbols, read.count, counts) (sym tells);

@@ -1,6 +1,6 @@
 -- Exactly the refusals of `CompileRefused` are told, 14 of a fit text exactly if a model is ambiguous; one answer each. Assumes nothing.
 use Prim.Native.Nat.{ℕ, ◌+◌}
-use mathlib.Core.Path.{◌≡◌, refl, sym, ap, ◌∙◌}
+use mathlib.Core.Path.{◌≡◌, sym, ap, ◌∙◌}
 use mathlib.Core.Logic.{◌⊎◌, inl, inr, ⊎_elim, ◌↔◌, by_cases, ite, if_pos, if_neg}
 use mathlib.Core.List.{List}
 use native.Mathlib.Decide.{dec_lt}
@@ -21,9 +21,10 @@ use Rattle.model_read.proofs.Exact.{survey_sizes, survey_refused_exactly, Survey
 use Rattle.model_fill.specs.Ambiguity.{models_in, ambiguity_at, AmbiguousAt}
 use Rattle.model_fill.proofs.Ambiguities.{ambiguity_verdict, ambiguous_inside}
 use Rattle.model_table.specs.Compile.{TooManyRules, model_told, compile_told, Fit}
-use Rattle.model_table.specs.Compile.{CompileRefused, short_slice, bad_text, ambiguous_model, too_many_rules, told, Compiles}
-use Rattle.model_table.specs.declared.Compiled.{Compiled}
-use Rattle.model_table.specs.declared.Compiled.TheVariants.{Table, Refused}
+use Rattle.model_table.specs.Compile.{CompileRefused, short_slice, bad_text, ambiguous_model, too_many_rules, Compiled, told, Compiles}
+use Rattle.std.specs.Prelude.{Ok, Err}
+use Rattle.table.specs.declared.Sizes.{Sizes}
+use borrow.Author.Rules.{rules as all_rules}
 
 refused_not_holds : {n d p y m r : ℕ} → holds y m r ≡ refused n d p → ⊥
 refused_not_holds e = let z : ◌≡◌ {A = ℕ} 0 1 = cc in omega arith
@@ -131,16 +132,19 @@ module _ (L : Limits) (s M W : List ℕ) where
       back (k, w) (inl (j, v)) = (j + 1, compile_ambiguous f v)
       back (k, w) (inr h) = absurd (h k w)
 
+same_sizes : (x z : Sizes) → x.symbols ≡ z.symbols → x.states ≡ z.states → x.rules ≡ z.rules → x ≡ z
+same_sizes x z f g h = search all_rules
+
 -- an answer is known by what it tells
 told_unique : (a b : Compiled) → told a ≡ told b → a ≡ b
-told_unique (Table y n r) (Table y' n' r') e =
-    let f : y ≡ y' = cc in
-    let g : n ≡ n' = cc in
-    let h : r ≡ r' = cc in
-    rw (f, g, h) refl
-told_unique (Table y n r) (Refused x) e = absurd (refused_not_holds e)
-told_unique (Refused x) (Table y n r) e = absurd (refused_not_holds (sym e))
-told_unique (Refused x) (Refused z) e = ap Refused (refusal_unique x z e)
+told_unique (Ok x) (Ok z) e =
+    let f : x.symbols ≡ z.symbols = cc in
+    let g : x.states ≡ z.states = cc in
+    let h : x.rules ≡ z.rules = cc in
+    ap Ok (same_sizes x z f g h)
+told_unique (Ok x) (Err r) e = absurd (refused_not_holds e)
+told_unique (Err r) (Ok x) e = absurd (refused_not_holds (sym e))
+told_unique (Err x) (Err z) e = ap Err (refusal_unique x z e)
 
 pub compiles_unique : (L : Limits) (s M W : List ℕ) (a b : Compiled) (M₁ W₁ M₂ W₂ : List ℕ)
     → Compiles L s M W a M₁ W₁ → Compiles L s M W b M₂ W₂ → (a ≡ b) × (M₁ ≡ M₂) × (W₁ ≡ W₂)

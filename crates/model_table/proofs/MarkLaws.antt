@@ -4,8 +4,7 @@ use mathlib.Core.Path.{◌≡◌, refl, sym, ap, ap₂, ◌∙◌}
 use mathlib.Core.Bool.{cond}
 use mathlib.Core.List.{List, [], ◌∷◌, ◌++◌}
 use native.Mathlib.Numerals.{add-one}
-use native.Mathlib.Omega.{arith}
-use lib.ListN.{length, drop, set, length-append, length-drop}
+use lib.ListN.{length, drop, set}
 use lib.Seq.{drop-cons, set_at, append_snoc}
 use lib.Dec.{eqb}
 use borrow.Author.Tests.{lt-ltb, le-ltb, eq-eqb, ne_eqb}
@@ -53,8 +52,3 @@ module _ (n start : ℕ) where
       ∙ set_at p (at o q) (drop (suc q) o) m q (length_single q (the_mark_at n start))
       ∙ ap (λ x. p ++ (x ∷ drop (suc q) o)) e
       ∙ sym (append_snoc p (the_mark_at n start q) (drop (suc q) o)))
-
-  pub marks_length : (o o₁ : List ℕ) (q : ℕ) → q ≤ length o → o₁ ≡ marks_for n start q ++ drop q o → length o₁ ≡ length o
-  marks_length o o₁ q h k =
-      ap length k ∙ length-append (marks_for n start q) (drop q o)
-      ∙ omega (arith, length_marks_for q, length-drop q o)

@@ -1,17 +1,18 @@
 -- What turning a model text into a table tells, and what the lent slices then hold.
-use Rattle.std.specs.Prelude.{ℕ, ◌+◌, ◌<◌, ◌≡◌, List, length}
+use Rattle.std.specs.Prelude.{ℕ, ◌+◌, ◌<◌, ◌≡◌, List, length, Result}
 use Rattle.std.proofs.Math.Logic.{ite}
 use Rattle.std.proofs.Math.Decide.{dec_lt}
 use Rattle.paper.specs.Limits.{Limits}
-use Rattle.paper.specs.Told.{Told, refused, holds, refusal, after, filled}
+use Rattle.paper.specs.Told.{Told, refused, holds, after, filled}
 use Rattle.paper.specs.First.{first}
+use Rattle.table.specs.Told.{sizes_told}
 use Rattle.table.specs.Room.{NoRoom, no_room?}
 use Rattle.compiled.specs.States.{states, marks}
 use Rattle.compiled.specs.Rules.{rules, numbers}
 use Rattle.model_read.specs.Text.{symbols_in, said_by, TooManyStates, survey_told, WellFormed, SurveyRefused}
 use Rattle.model_fill.specs.Ambiguity.{models_in, start_in, ambiguity_at, AmbiguousAt}
-use Rattle.model_table.specs.declared.Compiled.{Compiled}
-use Rattle.model_table.specs.declared.Compiled.TheVariants.{Table, Refused}
+use Rattle.paper.specs.declared.Refusal.{Refusal}
+use Rattle.table.specs.declared.Sizes.{Sizes}
 
 -- the marks of its table, and the numbers of its rules
 unfoldable pub the_marks_by : Limits → List ℕ → List ℕ
@@ -52,10 +53,12 @@ pub data CompileRefused (L : Limits) (s M W : List ℕ) : ℕ → ℕ → ℕ �
       → CompileRefused L s M W 14 0 (k + 1)
   too_many_rules : Fit L s M W → ((j : ℕ) → ¬ AmbiguousAt (said_by L s) j) → TooManyRules L s → CompileRefused L s M W 16 0 0
 
--- what the answer tells
+-- what is answered, and what that tells
+abbrev pub Compiled : Type 0
+Compiled = Result Sizes Refusal
+
 abbrev pub told : Compiled → Told
-told (Table y n r) = holds y n r
-told (Refused x) = refusal x
+told = sizes_told
 
 -- what is answered, and what the slices then hold
 pub record Compiles (L : Limits) (s M W : List ℕ) (r : Compiled) (M' W' : List ℕ) : Type 0 where

@@ -11,6 +11,8 @@ use lib.ListN.{length, drop}
 use Rattle.paper.specs.Limits.{Limits, at}
 use Rattle.paper.specs.Told.{Tells}
 use Rattle.table.specs.Rules.{join_rule}
+use Rattle.std.specs.Prelude.{Option, unwrap_or}
+use Rattle.std.proofs.Common.{ap}
 use Rattle.joins.specs.Target.{Finds}
 use Rattle.joins.proofs.TargetLaws.{target_of, target_beyond}
 use Rattle.receiver.specs.Numbers.{number, numbers_each}
@@ -85,14 +87,15 @@ module _ (L : Limits) (wide : 0 < L.width) where
     step_to {x} {y} long hx hy (nowhere d) =
         let n = numbered r long in
         absurd (d (record { long = long; index = r.1.index_in; left = omega (arith, n.inside); right = omega (arith, n.inside) }))
-    step_to {x} {y} long hx hy (looked {q} h f) =
-        join_to_of receiver_factorized receiver_bounded x y (at ws (number_at x 0)) (at ws (number_at y 1)) q
+    step_to {x} {y} long hx hy (looked {o} h f) =
+        join_to_of receiver_factorized receiver_bounded x y (at ws (number_at x 0)) (at ws (number_at y 1)) (unwrap_or o z.receivers)
         (rw (front_number (numbered r long) x 0 hx (omega arith), ← r.1.states) (r.1.numbers.lefts x (omega (arith, r.1.states))))
         (rw (front_number (numbered r long) y 1 hy (omega arith), ← r.1.states) (r.1.numbers.rights y (omega (arith, r.1.states))))
-        (moved (at ws (number_at x 0)) (at ws (number_at y 1)) q (rw (fixed_drop z.base z.pairs ws z.index r.1.index_in long) at f))
+        (moved (at ws (number_at x 0)) (at ws (number_at y 1)) o (rw (fixed_drop z.base z.pairs ws z.index r.1.index_in long) at f))
       where
-        moved : (l t q : ℕ) → Finds L.width xB (drop z.index (memory_of z ws).fixed) l t z.receivers q
-            → Rules L xB (join_rule l t q) ⊎ ((q ≡ z.receivers) × ((b : ℕ) → ¬ Rules L xB (join_rule l t b)))
-        moved l t q f = by_cases (dec_lt l z.receivers)
+        moved : (l t : ℕ) (o : Option ℕ) → Finds L.width xB (drop z.index (memory_of z ws).fixed) l t o
+            → Rules L xB (join_rule l t (unwrap_or o z.receivers))
+            ⊎ ((unwrap_or o z.receivers ≡ z.receivers) × ((b : ℕ) → ¬ Rules L xB (join_rule l t b)))
+        moved l t o f = by_cases (dec_lt l z.receivers)
             (λ h. target_of wide r.1.index h f)
-            (λ h. inr (target_beyond wide r.1.index (omega arith) f, λ b o. absurd (omega (arith, receiver_bounded.join_from l t b o))))
+            (λ h. inr (ap (λ (p : Option ℕ). unwrap_or p z.receivers) (target_beyond wide r.1.index (omega arith) f), λ b o. absurd (omega (arith, receiver_bounded.join_from l t b o))))

@@ -1,6 +1,6 @@
 -- What the receiver's moves read, on any slices: the first leaf rule of a symbol, a join looked up by the numbers of two states, and
 -- whether a pair fails.
-use Rattle.std.specs.Prelude.{ℕ, ◌+◌, ◌*◌, ◌-◌, ◌≤◌, ◌<◌, ◌≡◌, ◌≢◌, List, length, take, drop}
+use Rattle.std.specs.Prelude.{ℕ, ◌+◌, ◌*◌, ◌-◌, ◌≤◌, ◌<◌, ◌≡◌, ◌≢◌, List, length, take, drop, Option, unwrap_or}
 use Rattle.paper.specs.Limits.{at, leaf_kind}
 use Rattle.table.specs.Rules.{Final}
 use Rattle.joins.specs.Target.{Finds}
@@ -33,9 +33,9 @@ pub record StepFits (z : Sizes) (size x y : ℕ) : Type 0 where
 
 -- the join of x and y is looked up, or there is nothing to look in
 pub data Stepped (w : ℕ) (xs : List ℕ) (z : Sizes) (ws : List ℕ) (x y : ℕ) : ℕ → Type 0 where
-  looked : {q : ℕ} → StepFits z (length ws) x y
-      → Finds w xs (take (z.base - z.index) (drop z.index ws)) (at ws (number_at x 0)) (at ws (number_at y 1)) z.receivers q
-      → Stepped w xs z ws x y q
+  looked : {o : Option ℕ} → StepFits z (length ws) x y
+      → Finds w xs (take (z.base - z.index) (drop z.index ws)) (at ws (number_at x 0)) (at ws (number_at y 1)) o
+      → Stepped w xs z ws x y (unwrap_or o z.receivers)
   nowhere : ¬ StepFits z (length ws) x y → Stepped w xs z ws x y z.receivers
 
 -- the sender's state is final, and the number of the receiver's that says whether it reaches a final state is there and is not 1

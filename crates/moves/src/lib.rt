@@ -19,19 +19,17 @@ const RIGHT: usize = 1;
 const ENDS: usize = 2;
 
 // The receiver's base state of a leaf, or n if it has none.
+// Kept: n is a state of the product, the one that stands for none, and a pair has it as any other (FirstLeaf, base states of product).
 pub fn leaf_state(rules: &[u16], n: u16, a: u16) -> Receiver
     ensures { FirstLeaf limits.width rules.now n a result.0 }
 {
-    let rows = rules.len() / paper::WIDTH;
-    let mut i = 0;
-    while i < rows {
+    for i in 0..rules.len() / paper::WIDTH {
         let row = pairs::rule_row(rules, i);
         if row.kind == paper::LEAF_RULE {
             if row.left == a {
                 return Receiver(row.to);
             }
         }
-        i += 1;
     }
     Receiver(n)
 }
@@ -56,7 +54,8 @@ pub fn step(rules: &[u16], z: Sizes, work: &[u16], x: Receiver, y: Receiver) -> 
     if to <= j {
         return Receiver(z.receivers);
     }
-    Receiver(joins::target(rules, &work[from..to], work[i], work[j], z.receivers))
+    let target = joins::target(rules, &work[from..to], work[i], work[j]);
+    Receiver(target.unwrap_or(z.receivers))
 }
 
 // Does the pair fail?

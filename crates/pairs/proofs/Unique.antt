@@ -7,7 +7,7 @@ use mathlib.Core.List.{List}
 use native.Mathlib.Decide.{dec_le, dec_lt, map_dec}
 use lib.ListN.{length}
 use Rattle.pairs.specs.declared.Pair.{Pair}
-use Rattle.pairs.specs.declared.RuleRow.{RuleRow}
+use Rattle.paper.specs.declared.RuleRow.{RuleRow}
 use Rattle.pairs.specs.declared.Sizes.{Sizes}
 use Rattle.pairs.specs.Memory.{end_at}
 use Rattle.pairs.specs.State.{code, eps_mark}

@@ -8,12 +8,20 @@ use native.Mathlib.Omega.{arith}
 use Rattle.paper.specs.Limits.{at}
 use Rattle.tree.specs.Tree.{leaf_mark}
 use Rattle.pairs.specs.declared.Pair.{Pair}
+use Rattle.pairs.specs.declared.Queue.{Queue}
 use Rattle.pairs.specs.declared.Sizes.{Sizes}
 use Rattle.pairs.specs.Memory.{the_queue_at, Taken, taking}
 use Rattle.pairs.specs.State.{code, Put}
-use Rattle.pairs.specs.Work.{memory_of, PlaceRead, TakeRead, Added, new, old, TakenAt, Working, PairAt, Took}
+use Rattle.pairs.specs.Work.{memory_of, PlaceRead, TakeRead, Added, new, old, TakenAt, Kept, Working, PairAt, Took}
 use Rattle.pairs.proofs.MemoryLaws.{found_at_lem, queue_at, set_putting, set_taking}
 use Rattle.pairs.proofs.StateLaws.{code_split, listed_inside, room}
+
+-- what stays of a queue, in no step and in one after another
+pub kept_here : {q : Queue} → Kept q q
+kept_here = record { sizes = refl; same = refl; long = refl }
+
+pub kept_then : {q q' q'' : Queue} → Kept q q' → Kept q' q'' → Kept q q''
+kept_then x y = record { sizes = y.sizes ∙ x.sizes; same = y.same ∙ x.same; long = y.long ∙ x.long }
 
 module _ {z : Sizes} {ws : List ℕ} {k : ℕ} (w : Working z ws k) where
   -- a pair of the queue that was read

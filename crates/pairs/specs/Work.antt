@@ -3,7 +3,8 @@ use Rattle.std.specs.Prelude.{ℕ, ◌+◌, ◌*◌, ◌/◌, ◌%◌, ◌≤◌
 use Rattle.paper.specs.Limits.{at}
 use Rattle.tree.specs.Tree.{leaf_mark}
 use Rattle.pairs.specs.declared.Pair.{Pair}
-use Rattle.pairs.specs.declared.RuleRow.{RuleRow}
+use Rattle.pairs.specs.declared.Queue.{Queue}
+use Rattle.paper.specs.declared.RuleRow.{RuleRow}
 use Rattle.pairs.specs.declared.Sizes.{Sizes}
 use Rattle.pairs.specs.Memory.{Memory, memory, found_at, the_queue_at, the_lefts_at, the_rights_at, end_at, found_mark, taken_mark, taking}
 use Rattle.pairs.specs.State.{code, eps_mark, Queued}
@@ -81,6 +82,12 @@ pub data Added (z : Sizes) (ws : List ℕ) (k c a b : ℕ) : List ℕ → ℕ �
 pub record TakenAt (z : Sizes) (ws : List ℕ) (c : ℕ) : Type 0 where
   pub place : PlaceIn z (length ws) c
   pub taken : at ws (found_at z.base z.pairs + c) ≡ taken_mark
+
+-- the queue is in the same slice as before, and its sizes stay
+pub record Kept (q q' : Queue) : Type 0 where
+  pub sizes : q'.sizes ≡ q.sizes
+  pub same : q'.work.ghost_name ≡ q.work.ghost_name
+  pub long : length q'.work.now ≡ length q.work.now
 
 -- the work slice of a search: there is room, and k pairs are found
 pub record Working (z : Sizes) (ws : List ℕ) (k : ℕ) : Type 0 where

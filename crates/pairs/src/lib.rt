@@ -3,18 +3,22 @@
 // specs/Memory has the work memory of the search, specs/State what is known of the pairs found, specs/Work what the functions do to it.
 #![tactic(auto)]
 
-ghost use Rattle.std.specs.Prelude.{◌≡◌, ◌≤◌, ◌<◌, length};
+ghost use Rattle.std.specs.Prelude.{◌≡◌, ◌+◌, ◌≤◌, ◌<◌, length};
 ghost use Rattle.paper.specs.Limits.{limits};
 ghost use Rattle.paper.specs.Told.{Tells};
 ghost use Rattle.tree.specs.Tree.{leaf_mark};
 ghost use Rattle.table.specs.Rules.{Final};
 ghost use Rattle.pairs.specs.State.{code};
-ghost use Rattle.pairs.specs.Work.{Room, RowRead, HasNumber, PlaceIn, PlaceRead, TakeRead, Fits, put_slice, Added, TakenAt};
+ghost use Rattle.pairs.specs.Work.{Room, RowRead, HasNumber, PlaceIn, PlaceRead, TakeRead, Fits, put_slice, Added, TakenAt, Kept};
+
+use paper::RuleRow;
 
 // The second number of a pair that was found by an ε rule; numbers of pairs are lower.
+// Kept: a number, since it stands in that memory beside the numbers of pairs.
 pub const EPSILON: u16 = 65534;
 
 // How far a pair is: 0 at first, then found, then taken.
+// Kept: numbers in one lent slice of four parts, as nothing is allocated and the search's memory is one array of 16-bit numbers.
 const FOUND: u16 = 1;
 
 const TAKEN: u16 = 2;
@@ -50,33 +54,27 @@ pub struct Sizes {
     pub base: usize,
 }
 
-// The numbers of a rule.
-#[derive(Clone, Copy)]
-pub struct RuleRow {
-    pub kind: u16,
-    pub left: u16,
-    pub right: u16,
-    pub to: u16,
+// The queue of the pairs found, in the work memory: how many it has.
+#[derive(Drop)]
+pub struct Queue<'a> {
+    pub sizes: Sizes,
+    pub work: &'a mut [u16],
+    pub count: usize,
 }
 
-// The numbers of rule i, if it stands whole in the rules.
+// The numbers of rule i, if it stands whole in the rules, or else zeros.
+// Kept: zeros for none, a public promise (RowRead); `table::row_at` is what else is called.
 pub fn rule_row(rules: &[u16], i: usize) -> RuleRow
     ensures { RowRead limits.width rules.now i result }
 {
-    if rules.len() / paper::WIDTH <= i {
-        return RuleRow {
+    match table::row_at(rules, i) {
+        Some(row) => row,
+        None => RuleRow {
             kind: 0,
             left: 0,
             right: 0,
             to: 0,
-        };
-    }
-    let row = i * paper::WIDTH;
-    RuleRow {
-        kind: rules[row],
-        left: rules[row + 1],
-        right: rules[row + 2],
-        to: rules[row + 3],
+        },
     }
 }
 
@@ -134,7 +132,7 @@ fn has_place(z: Sizes, size: usize, i: usize) -> bool
     has_room(z, size)
 }
 
-// The pair at place i of the queue, or that of the number 0 where there is no such place.
+// The pair at place i of the queue in a work slice, or that of the number 0 where there is no such place.
 pub fn pair_at(z: Sizes, work: &[u16], i: usize) -> Pair
     ensures { PlaceRead z work.now i result }
 {
@@ -144,67 +142,7 @@ pub fn pair_at(z: Sizes, work: &[u16], i: usize) -> Pair
     pair_of(work[z.base + z.pairs + i], z.receivers)
 }
 
-// Takes the pair at place i of the queue.
-pub fn take(z: Sizes, work: &mut [u16], i: usize) -> Pair
-    ensures { TakeRead z work.old i work.new result }
-{
-    let pair = pair_at(z, work, i);
-    let p = pair.p;
-    let q = pair.q;
-    let c = number(p, q, z.receivers);
-    if !has_place(z, work.len(), c) {
-        return pair;
-    }
-    work[z.base + c] = TAKEN;
-    pair
-}
-
-// Writes the pair c at place k of the queue, with its two numbers.
-fn put(z: Sizes, work: &mut [u16], k: usize, c: usize, a: usize, b: usize)
-    requires { Room z (length work.old) × (k < z.pairs) × (c < z.pairs) × (a ≤ leaf_mark) × (b ≤ leaf_mark) }
-    ensures { work.new ≡ put_slice z work.old k c a b }
-{
-    work[z.base + c] = FOUND;
-    work[z.base + z.pairs + k] = c as u16;
-    work[z.base + FIRSTS * z.pairs + c] = a as u16;
-    work[z.base + SECONDS * z.pairs + c] = b as u16;
-}
-
-// May the pair c, with the numbers a and b, be put into a queue of k pairs?
-fn fits(z: Sizes, size: usize, k: usize, c: usize, a: usize, b: usize) -> bool
-    ensures { Tells result (Fits z size k c a b) }
-{
-    if z.pairs <= k {
-        return false;
-    }
-    if z.pairs <= c {
-        return false;
-    }
-    if paper::MOST_NUMBER < a {
-        return false;
-    }
-    if paper::MOST_NUMBER < b {
-        return false;
-    }
-    has_room(z, size)
-}
-
-// Puts the pair c at the end of the queue, which has k pairs, with the two numbers that say where it came from, unless it is found. Tells
-// how many pairs the queue then has.
-pub fn add(z: Sizes, work: &mut [u16], k: usize, c: usize, a: usize, b: usize) -> usize
-    ensures { Added z work.old k c a b work.new result }
-{
-    if !fits(z, work.len(), k, c, a, b) {
-        return k;
-    }
-    if work[z.base + c] != 0 {
-        return k;
-    }
-    put(z, work, k, c, a, b);
-    k + 1
-}
-
-// Is the pair c taken?
+// Is the pair c taken, in a work slice?
 pub fn is_taken(z: Sizes, work: &[u16], c: usize) -> bool
     ensures { Tells result (TakenAt z work.now c) }
 {
@@ -212,4 +150,95 @@ pub fn is_taken(z: Sizes, work: &[u16], c: usize) -> bool
         return false;
     }
     work[z.base + c] == TAKEN
+}
+
+impl<'a> Queue<'a> {
+    // The work slice, to be read.
+    pub fn slice(&self) -> &[u16]
+        ensures { result.now ≡ self.now.work.now }
+    {
+        self.work
+    }
+
+    // The pair at place i, or that of the number 0 where there is no such place.
+    pub fn pair_at(&self, i: usize) -> Pair
+        ensures { PlaceRead self.now.sizes self.now.work.now i result }
+    {
+        pair_at(self.sizes, self.work, i)
+    }
+
+    // Takes the pair at place i.
+    pub fn take(&mut self, i: usize) -> Pair
+        ensures took { TakeRead self.old.sizes self.old.work.now i self.new.work.now result }
+        ensures kept { Kept self.old self.new }
+        ensures count { self.new.count ≡ self.old.count }
+    {
+        let z = self.sizes;
+        let pair = self.pair_at(i);
+        let p = pair.p;
+        let q = pair.q;
+        let c = number(p, q, z.receivers);
+        if !has_place(z, self.work.len(), c) {
+            return pair;
+        }
+        self.work[z.base + c] = TAKEN;
+        pair
+    }
+
+    // Writes the pair c at the end, with its two numbers.
+    fn put(&mut self, c: usize, a: usize, b: usize)
+        requires { Room self.old.sizes (length self.old.work.now) × (self.old.count < self.old.sizes.pairs)
+            × (c < self.old.sizes.pairs) × (a ≤ leaf_mark) × (b ≤ leaf_mark) }
+        ensures put { self.new.work.now ≡ put_slice self.old.sizes self.old.work.now self.old.count c a b }
+        ensures kept { Kept self.old self.new }
+        ensures count { self.new.count ≡ self.old.count + 1 }
+    {
+        let z = self.sizes;
+        self.work[z.base + c] = FOUND;
+        self.work[z.base + z.pairs + self.count] = c as u16;
+        self.work[z.base + FIRSTS * z.pairs + c] = a as u16;
+        self.work[z.base + SECONDS * z.pairs + c] = b as u16;
+        self.count += 1;
+    }
+
+    // May the pair c, with the numbers a and b, be put at the end?
+    fn fits(&self, c: usize, a: usize, b: usize) -> bool
+        ensures { Tells result (Fits self.now.sizes (length self.now.work.now) self.now.count c a b) }
+    {
+        let z = self.sizes;
+        if z.pairs <= self.count {
+            return false;
+        }
+        if z.pairs <= c {
+            return false;
+        }
+        if paper::MOST_NUMBER < a {
+            return false;
+        }
+        if paper::MOST_NUMBER < b {
+            return false;
+        }
+        has_room(z, self.work.len())
+    }
+
+    // Puts the pair c at the end, with the two numbers that say where it came from, unless it is found.
+    pub fn add(&mut self, c: usize, a: usize, b: usize)
+        ensures added { Added self.old.sizes self.old.work.now self.old.count c a b self.new.work.now self.new.count }
+        ensures kept { Kept self.old self.new }
+    {
+        if !self.fits(c, a, b) {
+            return;
+        }
+        if self.work[self.sizes.base + c] != 0 {
+            return;
+        }
+        self.put(c, a, b);
+    }
+
+    // Is the pair c taken?
+    pub fn is_taken(&self, c: usize) -> bool
+        ensures { Tells result (TakenAt self.now.sizes self.now.work.now c) }
+    {
+        is_taken(self.sizes, self.work, c)
+    }
 }

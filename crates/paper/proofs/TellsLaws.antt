@@ -8,7 +8,7 @@ use borrow.Author.Tests.{ltb-true, ltb-false, leb-true, leb-false, eqb-true, eqb
 use native.Mathlib.Omega.{arith}
 use Rattle.paper.specs.Told.{Tells}
 
-true_not_false : true ≡ false → ⊥
+pub true_not_false : true ≡ false → ⊥
 true_not_false t = let z : ◌≡◌ {A = ℕ} 0 1 = cc in omega arith
 
 false_not_true : false ≡ true → ⊥

@@ -3,10 +3,9 @@ use Prim.Native.Nat.{ℕ}
 use mathlib.Core.Path.{◌≡◌, refl, sym, ap, ◌∙◌}
 use native.Mathlib.Omega.{arith}
 use mathlib.Core.Bool.{Bool, true, false}
-use Rattle.paper.specs.Told.{Told, refused, passes, refusal, check_told, Tells}
+use Rattle.std.specs.Prelude.{Ok, Err}
+use Rattle.paper.specs.Told.{Told, refused, passes, refusal, Checked, check_told, Tells}
 use Rattle.paper.specs.declared.Refusal.{Refusal}
-use Rattle.paper.specs.declared.Checked.{Checked}
-use Rattle.paper.specs.declared.Checked.TheVariants.{Passes, Refused}
 
 pub tells_unique : {P : Type 0} (a b : Bool) → Tells a P → Tells b P → a ≡ b
 tells_unique true true x y = refl
@@ -30,10 +29,10 @@ refusal_unique r s e =
 
 -- the answer of a check is known by what it tells, so that two answers which a check's contract allows are equal
 told_unique : (a b : Checked) → check_told a ≡ check_told b → a ≡ b
-told_unique Passes Passes e = refl
-told_unique Passes (Refused s) e = absurd (refused_not_passes (sym e))
-told_unique (Refused r) Passes e = absurd (refused_not_passes e)
-told_unique (Refused r) (Refused s) e = ap Refused (refusal_unique r s e)
+told_unique (Ok x) (Ok y) e = refl
+told_unique (Ok x) (Err s) e = absurd (refused_not_passes (sym e))
+told_unique (Err r) (Ok y) e = absurd (refused_not_passes e)
+told_unique (Err r) (Err s) e = ap Err (refusal_unique r s e)
 
 pub check_unique : (t : Told) (a b : Checked) → check_told a ≡ t → check_told b ≡ t → a ≡ b
 check_unique t a b x y = told_unique a b (x ∙ sym y)

@@ -1,5 +1,5 @@
 -- The first fault in a row of things: f i is the number that is wrong with thing i, 0 where nothing is wrong with it.
-use Rattle.std.specs.Prelude.{ℕ, zero, suc, ◌+◌, ◌<◌, ◌≡◌, ◌≢◌}
+use Rattle.std.specs.Prelude.{ℕ, zero, suc, ◌+◌, ◌<◌, ◌≡◌, ◌≢◌, Option, Some, None}
 use Rattle.std.proofs.Math.Logic.{ite}
 use Rattle.std.proofs.Math.Decide.{ℕ_discrete}
 use Rattle.paper.specs.Told.{Told, refused}
@@ -29,3 +29,8 @@ pub record FirstWrong (W : ℕ → Type 0) (n k : ℕ) : Type 0 where
 -- none of the first n things is wrong
 abbrev pub NoneWrong : (ℕ → Type 0) → ℕ → Type 0
 NoneWrong W n = (j : ℕ) → j < n → ¬ W j
+
+-- a search among the first n things tells the first that is wrong, if one is
+abbrev pub FindsWrong : (ℕ → Type 0) → ℕ → Option ℕ → Type 0
+FindsWrong W n None = NoneWrong W n
+FindsWrong W n (Some k) = FirstWrong W n k

@@ -1,3 +1,4 @@
+pub mod Faults
 pub mod Told
 pub mod Limits
 pub mod First

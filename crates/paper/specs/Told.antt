@@ -1,9 +1,7 @@
--- What can be answered, in the paper's own numbering. The answers of the library that refuse are enums; `check_told` here, and `told` in the
--- crate of each other one, says what each of their cases tells.
-use Rattle.std.specs.Prelude.{ℕ, ◌≡◌, Bool, true, false, cond, List, ◌++◌, length, drop}
+-- What can be answered, in the paper's own numbering. Where the library may refuse, an answer is a result or a refusal;
+-- `check_told` here, and `told` in the crate of each other one, says what it tells.
+use Rattle.std.specs.Prelude.{ℕ, ◌≡◌, Bool, true, false, cond, List, ◌++◌, length, drop, ⊤, Result, Ok, Err}
 use Rattle.paper.specs.declared.Refusal.{Refusal}
-use Rattle.paper.specs.declared.Checked.{Checked}
-use Rattle.paper.specs.declared.Checked.TheVariants.{Passes, Refused}
 
 pub data Told : Type 0 where
   -- a numbered refusal: side is 1 for the sender, 2 for the receiver, 0 for neither; place counts from 1, 0 is the whole
@@ -27,10 +25,13 @@ pub data Told : Type 0 where
 abbrev pub refusal : Refusal → Told
 refusal r = refused r.number r.side r.place
 
--- what the answer of a check tells
+-- what a check answers, and what that tells
+abbrev pub Checked : Type 0
+Checked = Result ⊤ Refusal
+
 abbrev pub check_told : Checked → Told
-check_told Passes = passes
-check_told (Refused r) = refusal r
+check_told (Ok done) = passes
+check_told (Err r) = refusal r
 
 -- is it a refusal, and where
 unfoldable pub is_refusal : Told → Bool

@@ -10,8 +10,8 @@ use lib.ListN.{length, get_or, drop}
 use borrow.Author.Tests.{lt-ltb, le-ltb, eqb-true, eqb-false, eq-eqb, ne_eqb, ltb-true, ltb-false}
 use Rattle.lines.specs.Number.{most_number, digit, more, number}
 use Rattle.lines.specs.Lines.{onto}
-use Rattle.lines.specs.declared.Number.{Number}
-use Rattle.lines.specs.declared.Number.TheVariants.{Value, Bad}
+use Rattle.lines.specs.Number.{Number}
+use Rattle.std.specs.Prelude.{Ok, Err}
 use Rattle.lines.proofs.Tests.{split}
 use Rattle.postfix.specs.Token.{space, parts, first_part}
 
@@ -94,8 +94,8 @@ parts_cut (b ∷ l) =
 
 -- a number read somewhere else
 unfoldable pub moved : ℕ → Number → Number
-moved d (Value a i) = Value a (d + i)
-moved d (Bad i) = Bad (d + i)
+moved d (Ok (a, i)) = Ok (a, d + i)
+moved d (Err i) = Err (d + i)
 
 space_ends : digit space ≡ 10
 unfolding digit
@@ -123,14 +123,14 @@ more_front d v i (b ∷ l) =
 
 pub number_front : (d : ℕ) (l : List ℕ) → number d l ≡ moved d (number 0 (front l))
 unfolding number moved front parts first_part
-number_front d [] = ap Bad (sym (add-zero d))
+number_front d [] = ap Err (sym (add-zero d))
 number_front d (b ∷ l) =
     split (eqb b space)
     (λ t.
     let s = eqb-true b space t in
     let z : digit b ≡ 10 = ap digit s ∙ space_ends in
-    rw (front_space b l s, z) (ap Bad (sym (add-zero d))))
+    rw (front_space b l s, z) (ap Err (sym (add-zero d))))
     (λ t.
     split (ltb (digit b) 10)
     (λ u. rw (front_byte b l (eqb-false b space t), u) (more_front d (digit b) 1 l))
-    (λ u. rw (front_byte b l (eqb-false b space t), u) (ap Bad (sym (add-zero d)))))
+    (λ u. rw (front_byte b l (eqb-false b space t), u) (ap Err (sym (add-zero d)))))

@@ -18,7 +18,7 @@ use Rattle.model.specs.declared.Token.TheVariants.{Symbol, Empty, Comma, Bar, St
 use Rattle.postfix.specs.Token.{parts, token_of, one, token_at}
 use Rattle.postfix.specs.Steps.{takes, adds}
 use Rattle.postfix.specs.Field.{ahead, tokens_of, written, model_in, content_of}
-use Rattle.postfix.specs.declared.Content.TheVariants.{Places, Bad}
+use Rattle.std.specs.Prelude.{Some, None}
 use Rattle.postfix.specs.declared.Reading.{Reading}
 use Rattle.postfix.specs.declared.Reading.TheVariants as reading
 use Rattle.postfix.proofs.Parts.{front, behind, parts_cut, front_short}
@@ -189,13 +189,13 @@ module _ (n : ℕ) (f : List ℕ) (i : ℕ) (h : i ≤ length f) where
       absurd (e u (i + suc (length (front (drop i f)))) y))
 
 -- the stack at the end
-one_left : (st : List Model) → length st ≡ 1 → Places (total st) ≡ content_of (single st)
+one_left : (st : List Model) → length st ≡ 1 → Some (total st) ≡ content_of (single st)
 unfolding total content_of
 one_left [] e = absurd (omega arith)
-one_left (m ∷ []) e = ap Places (omega arith)
+one_left (m ∷ []) e = ap Some (omega arith)
 one_left (m ∷ (k ∷ st)) e = absurd (omega arith)
 
-not_left : (st : List Model) → (length st ≡ 1 → ⊥) → Bad ≡ content_of (single st)
+not_left : (st : List Model) → (length st ≡ 1 → ⊥) → None ≡ content_of (single st)
 unfolding content_of
 not_left [] e = refl
 not_left (m ∷ []) e = absurd (e refl)
@@ -211,7 +211,7 @@ module _ {L : Limits} {n : ℕ} {f : List ℕ} {i count depth size : ℕ} (g : R
         g.same ∙ ap (λ ps. going L count (tokens_of n ps) g.models) (left_cut f i h) ∙ rw (e, ← q)
 
     pub reached_bad : {r : Reading} → r ≡ token_at n f i → ((t : Token) (j : ℕ) → r ≡ reading.One t j → ⊥)
-        → Bad ≡ content_of (model_in L n f)
+        → None ≡ content_of (model_in L n f)
     unfolding content_of going ahead
     reached_bad {r} e k = rw (step_same (token_bad n f i h (λ t j z. k t j (e ∙ z))) refl)
 
@@ -222,11 +222,11 @@ module _ {L : Limits} {n : ℕ} {f : List ℕ} {i count depth size : ℕ} (g : R
       pub token_past : i < j
       token_past = let m = token_given n f i h e in omega (arith, m.1)
 
-      pub reached_over : L.tokens ≤ count → Bad ≡ content_of (model_in L n f)
+      pub reached_over : L.tokens ≤ count → None ≡ content_of (model_in L n f)
       unfolding content_of
       reached_over z = rw (token_same ∙ going_over L count g.models t (tokens_of n (left f j)) z)
 
-      pub reached_short : depth < takes t → Bad ≡ content_of (model_in L n f)
+      pub reached_short : depth < takes t → None ≡ content_of (model_in L n f)
       unfolding content_of
       reached_short z =
           let m = missed t g.models (omega (arith, g.height)) in
@@ -255,8 +255,8 @@ module _ {L : Limits} {n : ℕ} {f : List ℕ} {i count depth size : ℕ} (g : R
       g.same ∙ ap (λ ps. going L count (tokens_of n ps) g.models) (left_end f i h)
       ∙ ap (λ t. cond t (single g.models) none) (le-leb (count + 0) L.tokens k)
 
-  pub reached_one : length f < i → depth ≡ 1 → Places size ≡ content_of (model_in L n f)
-  reached_one h z = let e = end_same h in ap Places (sym g.sum) ∙ one_left g.models (g.height ∙ z) ∙ ap content_of (sym e)
+  pub reached_one : length f < i → depth ≡ 1 → Some size ≡ content_of (model_in L n f)
+  reached_one h z = let e = end_same h in ap Some (sym g.sum) ∙ one_left g.models (g.height ∙ z) ∙ ap content_of (sym e)
 
-  pub reached_many : length f < i → (depth ≡ 1 → ⊥) → Bad ≡ content_of (model_in L n f)
+  pub reached_many : length f < i → (depth ≡ 1 → ⊥) → None ≡ content_of (model_in L n f)
   reached_many h z = let e = end_same h in not_left g.models (λ q. z (sym g.height ∙ q)) ∙ ap content_of (sym e)

@@ -10,10 +10,10 @@ use lib.ListN.{length, get_or, drop, length-drop, drop_of_length-le}
 use lib.Seq.{get_or-drop}
 use borrow.Author.Tests.{lt-ltb, le-ltb, eqb-true, eqb-false, eq-eqb, ne_eqb, ltb-true, ltb-false}
 use Rattle.lines.specs.Number.{digit, number}
-use Rattle.lines.specs.declared.Number.TheVariants.{Value, Bad}
+use Rattle.std.specs.Prelude.{Ok, Err}
 use Rattle.lines.proofs.Tests.{split}
 use Rattle.lines.proofs.Places.{from}
-use Rattle.lines.proofs.NumberLaws.{byte_digit, not_both}
+use Rattle.lines.proofs.NumberLaws.{byte_digit, not_both, same_value}
 use Rattle.lines.proofs.FieldLaws.{numbers}
 use Rattle.lines.proofs.Within.{number_ends}
 use Rattle.model.specs.declared.Token.{Token}
@@ -109,36 +109,34 @@ module _ (f : List ℕ) (i : ℕ) where
       rw (lt-ltb (i + k) (length f) (omega (arith, m.0, l)), u, ne_eqb (get_or f (i + k) 0) space (λ z. m.1 (b ∙ z))))
 
   -- what reading a number at i says of the part
-  symbol_found : (n a e : ℕ) → number i (drop i f) ≡ Value a e →
-      (k : ℕ) × (number 0 (front (drop i f)) ≡ Value a k) × (e ≡ i + k) × (k ≤ length (front (drop i f)))
+  symbol_found : (n a e : ℕ) → number i (drop i f) ≡ Ok (a, e) →
+      (k : ℕ) × (number 0 (front (drop i f)) ≡ Ok (a, k)) × (e ≡ i + k) × (k ≤ length (front (drop i f)))
   unfolding moved
   symbol_found n a e h =
       let p = front (drop i f) in
-      let m : moved i (number 0 p) ≡ Value a e = sym (number_front i (drop i f)) ∙ h in
+      let m : moved i (number 0 p) ≡ Ok (a, e) = sym (number_front i (drop i f)) ∙ h in
       numbers (number 0 p)
       (λ a' k q.
-      let z : Value a' (i + k) ≡ Value a e = rw q at m in
-      let y : a' ≡ a = cc in
-      let x : i + k ≡ e = cc in
-      (k, q ∙ ap (λ c. Value c k) y, sym x, (number_ends p 0 q).1))
+      let z = same_value (rw q at m) in
+      (k, q ∙ ap (λ c. Ok (c, k)) z.0, sym z.1, (number_ends p 0 q).1))
       (λ k q. absurd (not_both (rw q at m)))
 
-  pub symbol_bad : (n : ℕ) {e : ℕ} → number i (drop i f) ≡ Bad e → read.Bad ≡ symbol_at n f i
+  pub symbol_bad : (n : ℕ) {e : ℕ} → number i (drop i f) ≡ Err e → read.Bad ≡ symbol_at n f i
   unfolding symbol_at moved symbol_token one front
   symbol_bad n {e} h =
       let p = front (drop i f) in
-      let m : moved i (number 0 p) ≡ Bad e = sym (number_front i (drop i f)) ∙ h in
+      let m : moved i (number 0 p) ≡ Err e = sym (number_front i (drop i f)) ∙ h in
       numbers (number 0 p)
       (λ a k q. absurd (not_both (sym (rw q at m))))
       (λ k q. rw q)
 
-  pub symbol_over : (n : ℕ) {a e : ℕ} → number i (drop i f) ≡ Value a e → n ≤ a → read.Bad ≡ symbol_at n f i
+  pub symbol_over : (n : ℕ) {a e : ℕ} → number i (drop i f) ≡ Ok (a, e) → n ≤ a → read.Bad ≡ symbol_at n f i
   unfolding symbol_at symbol_token one front
   symbol_over n {a} {e} h g =
       let m = symbol_found n a e h in
       split (eqb m.0 (length (front (drop i f)))) (λ u. rw (m.1, u, le-ltb a n g)) (λ u. rw (m.1, u))
 
-  pub symbol_read : (n : ℕ) {a e : ℕ} → number i (drop i f) ≡ Value a e → a < n → closed f (Symbol a) e ≡ symbol_at n f i
+  pub symbol_read : (n : ℕ) {a e : ℕ} → number i (drop i f) ≡ Ok (a, e) → a < n → closed f (Symbol a) e ≡ symbol_at n f i
   unfolding symbol_at symbol_token one front
   symbol_read n {a} {e} h g =
       let m = symbol_found n a e h in

@@ -6,8 +6,8 @@ use Rattle.model.specs.Model.{Model, places}
 use Rattle.model.specs.Postfix.{parse}
 use Rattle.model.specs.declared.Token.{Token}
 use Rattle.postfix.specs.Token.{parts, token_of}
-use Rattle.postfix.specs.declared.Content.{Content}
-use Rattle.postfix.specs.declared.Content.TheVariants.{Places, Bad}
+use Rattle.std.specs.Prelude as std
+use Rattle.std.specs.Prelude.{Some, None}
 
 -- all tokens, if each part is one
 unfoldable pub ahead : Option Token → Option (List Token) → Option (List Token)
@@ -29,6 +29,6 @@ unfoldable pub model_in : Limits → ℕ → List ℕ → Option Model
 model_in L n f = written L (tokens_of n (parts f))
 
 -- what the model reader answers: the number of places of the model, if there is one
-unfoldable pub content_of : Option Model → Content
-content_of none = Bad
-content_of (some m) = Places (places m)
+unfoldable pub content_of : Option Model → std.Option ℕ
+content_of none = None
+content_of (some m) = Some (places m)

@@ -3,8 +3,8 @@ use Rattle.std.specs.Prelude.{ℕ, suc, ◌+◌, cond, ◌&&◌, List, [], ◌�
 use Rattle.std.proofs.Math.Option.{Option, none, some}
 use Rattle.lines.specs.Number.{number}
 use Rattle.lines.specs.Lines.{onto}
-use Rattle.lines.specs.declared.Number.{Number}
-use Rattle.lines.specs.declared.Number.TheVariants.{Value, Bad}
+use Rattle.lines.specs.Number.{Number}
+use Rattle.std.specs.Prelude.{Ok, Err}
 use Rattle.model.specs.declared.Token.{Token}
 use Rattle.model.specs.declared.Token.TheVariants.{Symbol, Empty, Comma, Bar, Star, Query, Plus}
 use Rattle.postfix.specs.declared.Reading.{Reading}
@@ -31,8 +31,8 @@ sign b =
 
 -- a number that is all of a part of k bytes is the token of a symbol, if it is one of n symbols
 unfoldable pub symbol_token : ℕ → ℕ → Number → Option Token
-symbol_token n k (Value a i) = cond (eqb i k && ltb a n) (some (Symbol a)) none
-symbol_token n k (Bad i) = none
+symbol_token n k (Ok (a, i)) = cond (eqb i k && ltb a n) (some (Symbol a)) none
+symbol_token n k (Err i) = none
 
 -- a part of one byte may be a sign
 unfoldable pub sign_of : List ℕ → Option Token

@@ -1,23 +1,21 @@
 -- Writing piece by piece, and what is left as it was where there is no room.
-use Prim.Native.Nat.{ℕ, ◌+◌, ◌-◌, ◌≤◌, ◌<◌}
+use Prim.Native.Nat.{ℕ, ◌+◌, ◌≤◌, ◌<◌}
 use mathlib.Core.Path.{◌≡◌, refl, ap, sym, ◌∙◌}
-use mathlib.Core.List.{List, [], ◌∷◌, ◌++◌}
+use mathlib.Core.List.{List, [], ◌++◌}
 use mathlib.Core.Bool.{Bool, true, false}
 use native.Mathlib.Omega.{arith}
 use lib.Dec.{leb}
-use native.Mathlib.Numerals.{add-one}
-use lib.ListN.{length, set, take, get_or, length-append}
-use lib.Seq.{sets, length-sets, take-suc, take_all}
-use borrow.Author.Tests.{leb-true, leb-false, le-leb, lt-leb}
+use lib.ListN.{length, length-append}
+use lib.Seq.{sets, length-sets, sets-eq, take-length}
+use borrow.Rule.Slice.PartMut.{put_mid}
+use Rattle.std.proofs.lemmas.Slice.{put_mid-paste}
+use borrow.Author.Tests.{leb-true, leb-false}
 use Rattle.put.specs.Put.{Put, Fit, Wrote}
 use Rattle.put.proofs.Bytes.{sets_then}
 use Rattle.lines.proofs.Tests.{split}
 
 pub put_none : (o : List ℕ) (at : ℕ) → Put o at [] at o
 put_none o at = record { ends = omega arith; holds = refl }
-
-pub put_byte : (o : List ℕ) (at b : ℕ) → Put o at (b ∷ []) (at + 1) (set o at b)
-put_byte o at b = record { ends = refl; holds = refl }
 
 pub put_then : {o o₁ o₂ : List ℕ} {at e r : ℕ} {bs cs : List ℕ} → Put o at bs e o₁ → Put o₁ e cs r o₂ → Put o at (bs ++ cs) r o₂
 put_then {o} {o₁} {o₂} {at} {e} {r} {bs} {cs} p q =
@@ -32,16 +30,13 @@ put_as e p = rw e at p
 pub put_length : {o o' : List ℕ} {at r : ℕ} {bs : List ℕ} → Put o at bs r o' → length o' ≡ length o
 put_length {o} {o'} {at} {r} {bs} p = ap length p.holds ∙ length-sets o at bs
 
--- the bytes of a slice, put one behind the other
-pub put_more : {o o' : List ℕ} {at : ℕ} (bs : List ℕ) (i : ℕ) → i < length bs → Put o at (take i bs) (at + i) o'
-    → Put o at (take (i + 1) bs) (at + (i + 1)) (set o' (at + i) (get_or bs i 0))
-put_more {o} {o'} {at} bs i h p =
-    let e : take (i + 1) bs ≡ take i bs ++ (get_or bs i 0 ∷ []) = rw (add-one i, take-suc bs i 0 h) in
-    let q = put_then p (put_byte o' (at + i) (get_or bs i 0)) in
-    put_as (sym e) (record { ends = omega (arith, q.ends); holds = q.holds })
-
-pub put_all : {o o' : List ℕ} {at : ℕ} (bs : List ℕ) (i : ℕ) → length bs ≤ i → Put o at (take i bs) (at + i) o' → Put o at bs (at + i) o'
-put_all bs i h p = put_as (take_all i bs h) p
+-- the bytes of a slice, copied over a part of another
+pub put_part : {o ys bs : List ℕ} {at k : ℕ} → ys ≡ bs → k ≡ length bs → Fit o at bs (at + length bs) (put_mid at k o ys)
+put_part {o} {ys} {bs} {at} {k} e q h =
+    record {
+      ends = refl;
+      holds = put_mid-paste at k o ys bs (length bs) e (sym q) refl ∙ rw take-length (sym (sets-eq bs o at h));
+    }
 
 -- pieces that fit together
 pub fit_then : {o o₁ o₂ : List ℕ} {at e r : ℕ} {bs cs : List ℕ} → Fit o at bs e o₁ → Fit o₁ e cs r o₂ → Fit o at (bs ++ cs) r o₂
@@ -73,12 +68,9 @@ wrote_length {o} {o'} {at} {r} {bs} w =
     (λ t. put_length (w.fits (leb-true _ _ t)))
     (λ t. ap length (w.lacks (leb-false _ _ t)).1)
 
--- room behind a place, without a sum
-pub room_before : (len at size : ℕ) → len < at → false ≡ leb (at + size) len
-room_before len at size h = sym (lt-leb (at + size) len (omega arith))
+-- a slice that was lent to an `Out` is at last as the `Out` left it
+pub fit_kept : {o o₁ o₂ : List ℕ} {at r : ℕ} {bs : List ℕ} → o₂ ≡ o₁ → Fit o at bs r o₁ → Fit o at bs r o₂
+fit_kept e f = rw e f
 
-pub room_behind : (len at size : ℕ) → at ≤ len → leb size (len - at) ≡ leb (at + size) len
-room_behind len at size h =
-    split (leb size (len - at))
-    (λ t. t ∙ sym (le-leb (at + size) len (omega (arith, leb-true size (len - at) t))))
-    (λ t. t ∙ sym (lt-leb (at + size) len (omega (arith, leb-false size (len - at) t))))
+pub wrote_kept : {o o₁ o₂ : List ℕ} {at r : ℕ} {bs : List ℕ} → o₂ ≡ o₁ → Wrote o at bs r o₁ → Wrote o at bs r o₂
+wrote_kept e w = rw e w

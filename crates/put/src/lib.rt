@@ -1,5 +1,5 @@
 // Bytes, numbers, fields and whole lines put into a lent slice from a place on. Every public function takes every slice and every
-// place, and answers the place behind what it wrote; where that does not fit, nothing is changed and the place itself is answered.
+// place, and leaves the place behind what it wrote; where that does not fit, nothing is changed, and the place neither.
 #![tactic(auto)]
 
 ghost use Rattle.std.specs.Prelude.{◌≡◌, ℕ, ◌+◌, [], ◌∷◌, length, leb};
@@ -9,14 +9,11 @@ ghost use Rattle.put.specs.Put.{Fit, Wrote};
 
 use lines::{LF, TAB};
 
-// Whether `size` bytes from `at` on stand within a slice of `len`.
-fn has_room(len: usize, at: usize, size: usize) -> bool
-    ensures { result ≡ leb (at + size) len }
-{
-    if len < at {
-        return false;
-    }
-    size <= len - at
+// A lent slice, and the place behind what is written to it. Every function over it keeps the slice that was lent (`same`).
+#[derive(Drop)]
+pub struct Out<'a> {
+    pub bytes: &'a mut [u8],
+    pub at: usize,
 }
 
 // How many bytes n is written with.
@@ -25,85 +22,12 @@ fn width(n: usize) -> usize
 {
     let mut m = n;
     let mut k = 1;
+    // Kept: the new form is no plainer: m falls to its tenth each time, no range counts that, and a logarithm has none of 0.
     while 10 <= m {
         m = m / 10;
         k += 1;
     }
     k
-}
-
-// Writes one byte, and answers the place behind it.
-pub fn write_byte(out: &mut [u8], at: usize, b: u8) -> usize
-    ensures { Wrote out.old at (b ∷ []) result out.new }
-{
-    if at < out.len() {
-        out[at] = b;
-        return at + 1;
-    }
-    at
-}
-
-// Writes the digits of n, which fit.
-fn put_number(out: &mut [u8], at: usize, n: usize) -> usize
-    ensures { Fit out.old at (decimal n) result out.new }
-{
-    if n < 10 {
-        return write_byte(out, at, (n + 48) as u8);
-    }
-    let e = put_number(out, at, n / 10);
-    write_byte(out, e, (n % 10 + 48) as u8)
-}
-
-// Writes the bytes from `at` on, and answers where they end.
-pub fn write_bytes(out: &mut [u8], at: usize, bytes: &[u8]) -> usize
-    ensures { Wrote out.old at bytes.now result out.new }
-{
-    let size = bytes.len();
-    if has_room(out.len(), at, size) {
-        let mut i = 0;
-        while i < size {
-            out[at + i] = bytes[i];
-            i += 1;
-        }
-        return at + i;
-    }
-    at
-}
-
-// Writes n from `at` on, and answers where it ends.
-pub fn write_number(out: &mut [u8], at: usize, n: usize) -> usize
-    ensures { Wrote out.old at (decimal n) result out.new }
-{
-    let size = width(n);
-    let len = out.len();
-    if has_room(len, at, size) {
-        return put_number(out, at, n);
-    }
-    at
-}
-
-// Writes a tab and n, and answers where it ends.
-pub fn write_field(out: &mut [u8], at: usize, n: usize) -> usize
-    ensures { Wrote out.old at (entry n) result out.new }
-{
-    let size = 1 + width(n);
-    let len = out.len();
-    if has_room(len, at, size) {
-        let e = write_byte(out, at, TAB);
-        return write_number(out, e, n);
-    }
-    at
-}
-
-// Writes what stands behind the second of n numbers, which fits.
-fn put_last(out: &mut [u8], at: usize, n: usize, c: u16) -> usize
-    ensures { Fit out.old at (last n c) result out.new }
-{
-    if n == 3 {
-        let e = write_field(out, at, c as usize);
-        return write_byte(out, e, LF);
-    }
-    write_byte(out, at, LF)
 }
 
 // How many bytes a line of n numbers takes: its letter, a tab before each number, the numbers and LF.
@@ -117,17 +41,93 @@ fn size_of(n: usize, a: u16, b: u16, c: u16) -> usize
     two
 }
 
-// Writes the line of the letter t and n numbers, 3 or else 2, and answers where it ends.
-pub fn write_letters(out: &mut [u8], at: usize, t: u8, n: usize, a: u16, b: u16, c: u16) -> usize
-    ensures { Wrote out.old at (letters t n a b c) result out.new }
-{
-    let size = size_of(n, a, b, c);
-    let len = out.len();
-    if has_room(len, at, size) {
-        let e = write_byte(out, at, t);
-        let f = write_field(out, e, a as usize);
-        let g = write_field(out, f, b as usize);
-        return put_last(out, g, n, c);
+impl<'a> Out<'a> {
+    // Whether `size` bytes from the place on stand within the slice.
+    fn has_room(&self, size: usize) -> bool
+        ensures { result ≡ leb (self.now.at + size) (length self.now.bytes.now) }
+    {
+        self.at <= self.bytes.len() && size <= self.bytes.len() - self.at
     }
-    at
+
+    // Writes one byte.
+    pub fn write_byte(&mut self, b: u8)
+        ensures same { self.new.bytes.ghost_name ≡ self.old.bytes.ghost_name }
+        ensures wrote { Wrote self.old.bytes.now self.old.at (b ∷ []) self.new.at self.new.bytes.now }
+    {
+        if self.at < self.bytes.len() {
+            self.bytes[self.at] = b;
+            self.at += 1;
+        }
+    }
+
+    // Writes the bytes.
+    pub fn write_bytes(&mut self, bytes: &[u8])
+        ensures same { self.new.bytes.ghost_name ≡ self.old.bytes.ghost_name }
+        ensures wrote { Wrote self.old.bytes.now self.old.at bytes.now self.new.at self.new.bytes.now }
+    {
+        if self.has_room(bytes.len()) {
+            let end = self.at + bytes.len();
+            self.bytes[self.at..end].copy_from_slice(bytes);
+            self.at = end;
+        }
+    }
+
+    // Writes the digits of n, which fit.
+    fn put_number(&mut self, n: usize)
+        ensures same { self.new.bytes.ghost_name ≡ self.old.bytes.ghost_name }
+        ensures fit { Fit self.old.bytes.now self.old.at (decimal n) self.new.at self.new.bytes.now }
+    {
+        if n < 10 {
+            self.write_byte(n as u8 + b'0');
+        } else {
+            self.put_number(n / 10);
+            self.write_byte((n % 10) as u8 + b'0');
+        }
+    }
+
+    // Writes n.
+    pub fn write_number(&mut self, n: usize)
+        ensures same { self.new.bytes.ghost_name ≡ self.old.bytes.ghost_name }
+        ensures wrote { Wrote self.old.bytes.now self.old.at (decimal n) self.new.at self.new.bytes.now }
+    {
+        if self.has_room(width(n)) {
+            self.put_number(n);
+        }
+    }
+
+    // Writes a tab and n.
+    pub fn write_field(&mut self, n: usize)
+        ensures same { self.new.bytes.ghost_name ≡ self.old.bytes.ghost_name }
+        ensures wrote { Wrote self.old.bytes.now self.old.at (entry n) self.new.at self.new.bytes.now }
+    {
+        if self.has_room(1 + width(n)) {
+            self.write_byte(TAB);
+            self.write_number(n);
+        }
+    }
+
+    // Writes what stands behind the second of n numbers, which fits.
+    fn put_last(&mut self, n: usize, c: u16)
+        ensures same { self.new.bytes.ghost_name ≡ self.old.bytes.ghost_name }
+        ensures fit { Fit self.old.bytes.now self.old.at (last n c) self.new.at self.new.bytes.now }
+    {
+        if n == 3 {
+            self.write_field(c as usize);
+        }
+        self.write_byte(LF);
+    }
+
+    // Writes the line of the letter t and n numbers, 3 or else 2.
+    // Kept: a public promise: n may be every number, and c is not looked at where n is not 3.
+    pub fn write_letters(&mut self, t: u8, n: usize, a: u16, b: u16, c: u16)
+        ensures same { self.new.bytes.ghost_name ≡ self.old.bytes.ghost_name }
+        ensures wrote { Wrote self.old.bytes.now self.old.at (letters t n a b c) self.new.at self.new.bytes.now }
+    {
+        if self.has_room(size_of(n, a, b, c)) {
+            self.write_byte(t);
+            self.write_field(a as usize);
+            self.write_field(b as usize);
+            self.put_last(n, c);
+        }
+    }
 }

@@ -1,5 +1,5 @@
 -- Filling a stretch number by number, and that what is then held is known. Assumes nothing.
-use Prim.Native.Nat.{ℕ, ◌+◌, ◌≤◌, ◌<◌}
+use Prim.Native.Nat.{ℕ, ◌+◌, ◌≤◌, ◌<◌, min, max}
 use native.Mathlib.Omega.{arith}
 use native.Mathlib.Decide.{ℕ_discrete, dec_le, dec_lt}
 use mathlib.Core.Path.{◌≡◌, refl, sym, ◌∙◌}
@@ -34,32 +34,18 @@ fill_more {o} {s} {a} {i} {v} h k f =
     behind : (j : ℕ) → (j < a) ⊎ (i + 1 ≤ j) → ¬ (j < a) → j ≡ i → ⊥
     behind j p q e = let z = far j p q in omega arith
 
--- the slice ends before the stretch
-pub fill_short : {o s : List ℕ} {a b i v : ℕ} → length s ≤ i → i ≤ b → Filled o a i v s → Filled o a b v s
-fill_short {o} {s} {a} {b} {i} h k f =
-    record {
-      size = f.size;
-      inside = λ j p q r. f.inside j p (omega (arith, f.size)) r;
-      outside = λ j p. f.outside j (wide p);
-    }
-  where
-    wide : {j : ℕ} → (j < a) ⊎ (b ≤ j) → (j < a) ⊎ (i ≤ j)
-    wide (inl p) = inl p
-    wide (inr p) = inr (omega arith)
-
--- the stretch is full
-pub fill_end : {o s : List ℕ} {a b i v : ℕ} → b ≤ i → (i ≤ b) ⊎ (i ≤ a) → Filled o a i v s → Filled o a b v s
-fill_end {o} {s} {a} {b} {i} h k f =
+-- the stretch is full, as far as the slice goes
+pub fill_all : {o s : List ℕ} {a b i v : ℕ} → min b (length o) ≤ i → i ≤ max a (min b (length o)) → Filled o a i v s → Filled o a b v s
+fill_all {o} {s} {a} {b} {i} h k f =
     record {
       size = f.size;
       inside = λ j p q r. f.inside j p (omega arith) r;
-      outside = λ j p. f.outside j (by_cases (dec_lt j a) inl (λ q. inr (low k p q)));
+      outside = λ j p. f.outside j (by_cases (dec_lt j a) inl (λ q. inr (low p q)));
     }
   where
-    low : {j : ℕ} → (i ≤ b) ⊎ (i ≤ a) → (j < a) ⊎ (b ≤ j) → ¬ (j < a) → i ≤ j
-    low k (inl p) q = absurd (q p)
-    low (inl k) (inr p) q = omega arith
-    low (inr k) (inr p) q = omega arith
+    low : {j : ℕ} → (j < a) ⊎ (b ≤ j) → ¬ (j < a) → i ≤ j
+    low (inl p) q = absurd (q p)
+    low (inr p) q = omega arith
 
 pub filled_unique : {o s t : List ℕ} {a b v : ℕ} → Filled o a b v s → Filled o a b v t → s ≡ t
 filled_unique {o} {s} {t} {a} {b} f g = ext_get_or 0 s t (f.size ∙ sym g.size) (λ i h. one i (omega (arith, f.size)))

@@ -6,9 +6,11 @@ ghost use Rattle.std.specs.Prelude.{◌+◌, [], ◌∷◌};
 ghost use Rattle.put.specs.Put.{Wrote};
 ghost use Rattle.rows.specs.Fill.{Filled};
 
+use paper::RuleRow;
+
 // Puts the numbers of a rule from `at` on, and answers the place behind them; where they do not fit, nothing is changed.
-pub fn put_rule(rules: &mut [u16], at: usize, kind: u16, left: u16, right: u16, to: u16) -> usize
-    ensures { Wrote rules.old at (kind ∷ left ∷ right ∷ to ∷ []) result rules.new }
+pub fn put_rule(rules: &mut [u16], at: usize, rule: RuleRow) -> usize
+    ensures { Wrote rules.old at (rule.kind ∷ rule.left ∷ rule.right ∷ rule.to ∷ []) result rules.new }
 {
     let len = rules.len();
     if len < at {
@@ -17,10 +19,10 @@ pub fn put_rule(rules: &mut [u16], at: usize, kind: u16, left: u16, right: u16, 
     if len - at < paper::WIDTH {
         return at;
     }
-    rules[at] = kind;
-    rules[at + 1] = left;
-    rules[at + 2] = right;
-    rules[at + 3] = to;
+    rules[at] = rule.kind;
+    rules[at + 1] = rule.left;
+    rules[at + 2] = rule.right;
+    rules[at + 3] = rule.to;
     at + paper::WIDTH
 }
 
@@ -28,12 +30,7 @@ pub fn put_rule(rules: &mut [u16], at: usize, kind: u16, left: u16, right: u16, 
 pub fn fill(s: &mut [u16], from: usize, to: usize, v: u16)
     ensures { Filled s.old from to v s.new }
 {
-    let mut i = from;
-    while i < to {
-        if s.len() <= i {
-            return;
-        }
+    for i in from..to.min(s.len()) {
         s[i] = v;
-        i += 1;
     }
 }

@@ -10,14 +10,13 @@ use lib.ListN.{get_or}
 use borrow.Author.Tests.{ne_eqb, eqb-true, eqb-false}
 use Rattle.lines.specs.Number.{most_number}
 use Rattle.lines.specs.Lines.{lines}
-use Rattle.lines.specs.Fields.{fields, letters}
+use Rattle.lines.specs.Fields.{Fields, fields, letters}
 use Rattle.put.specs.Put.{Wrote}
-use Rattle.lines.specs.declared.Fields.{Fields}
-use Rattle.lines.specs.declared.Fields.TheVariants.{Got, Wrong}
+use Rattle.std.specs.Prelude.{Ok, Err}
 use Rattle.lines.proofs.Tests.{split}
 use Rattle.put.proofs.PutLaws.{put_none}
 use Rattle.lines.proofs.FieldLaws.{letters_two, letters_three, letters_shown, lines_letters}
-use Rattle.rule_line.specs.Line.{letter_t, letter_s, letter_l, letter_p, letter_e, count, says, line, rule_text, line_text}
+use Rattle.rule_line.specs.Line.{letter_t, letter_s, letter_l, letter_p, letter_e, rule_of, count, says, line, rule_text, line_text}
 use Rattle.rule_line.specs.declared.Line.{Line}
 use Rattle.rule_line.specs.declared.Line.TheVariants.{Head, State, Rule, Faulty}
 
@@ -25,7 +24,7 @@ use Rattle.rule_line.specs.declared.Line.TheVariants.{Head, State, Rule, Faulty}
 abbrev pub Sayable : Line → Type 0
 Sayable (Head a b) = (a ≤ most_number) × (b ≤ most_number)
 Sayable (State a b c) = (a ≤ most_number) × (b ≤ most_number) × (c ≤ most_number)
-Sayable (Rule k a b q) = (k ≤ 2) × (a ≤ most_number) × (b ≤ most_number) × (q ≤ most_number) × (k ≢ 1 → b ≡ 0)
+Sayable (Rule r) = (r.kind ≤ 2) × (r.left ≤ most_number) × (r.right ≤ most_number) × (r.to ≤ most_number) × (r.kind ≢ 1 → r.right ≡ 0)
 Sayable (Faulty i) = ⊥
 
 -- the text of a rule of each kind
@@ -51,27 +50,27 @@ line_three : (t a b c : ℕ) → count t ≡ 3 → a ≤ most_number → b ≤ m
 unfolding line letters
 line_three t a b c e ha hb hc = rw (e, letters_three t a b c ha hb hc)
 
-same_rule : {k m a b d q : ℕ} → k ≡ m → b ≡ d → Rule k a b q ≡ Rule m a d q
-same_rule p q = cc
+same_rule : {k m a b d q : ℕ} → k ≡ m → b ≡ d → rule_of k a b q ≡ rule_of m a d q
+same_rule p q = rw (p, q)
 
 pub line_written : (l : Line) → Sayable l → line (line_text l) ≡ l
 unfolding line_text count says rule_text
 line_written (Head a b) h = line_two letter_t a b refl h.0 h.1
 line_written (State a b c) h = line_three letter_s a b c refl h.0 h.1 h.2
-line_written (Rule k a b q) h =
-    split (eqb k 0)
-    (λ t. rw t (line_two letter_l a q refl h.1 h.3 ∙ same_rule (sym (eqb-true k 0 t)) (sym (h.4 (λ o. let z = eqb-true k 0 t in omega arith)))))
-    (λ t. split (eqb k 1)
-    (λ u. rw (t, u) (line_three letter_p a b q refl h.1 h.2 h.3 ∙ same_rule (sym (eqb-true k 1 u)) refl))
+line_written (Rule r) h =
+    split (eqb r.kind 0)
+    (λ t. rw t (line_two letter_l r.left r.to refl h.1 h.3 ∙ same_rule (sym (eqb-true r.kind 0 t)) (sym (h.4 (λ o. let z = eqb-true r.kind 0 t in omega arith)))))
+    (λ t. split (eqb r.kind 1)
+    (λ u. rw (t, u) (line_three letter_p r.left r.right r.to refl h.1 h.2 h.3 ∙ same_rule (sym (eqb-true r.kind 1 u)) refl))
     (λ u.
-    let n₀ = eqb-false k 0 t in
-    let n₁ = eqb-false k 1 u in
-    rw (t, u) (line_two letter_e a q refl h.1 h.3 ∙ same_rule (omega arith) (sym (h.4 n₁)))))
+    let n₀ = eqb-false r.kind 0 t in
+    let n₁ = eqb-false r.kind 1 u in
+    rw (t, u) (line_two letter_e r.left r.to refl h.1 h.3 ∙ same_rule (omega arith) (sym (h.4 n₁)))))
 line_written (Faulty i) h = absurd h
 
-fieldses : (v : Fields) {P : Type 0} → ((a b c : ℕ) → v ≡ Got a b c → P) → ((i : ℕ) → v ≡ Wrong i → P) → P
-fieldses (Got a b c) f g = f a b c refl
-fieldses (Wrong i) f g = g i refl
+fieldses : (v : Fields) {P : Type 0} → ((a b c : ℕ) → v ≡ Ok (a, b, c) → P) → ((i : ℕ) → v ≡ Err i → P) → P
+fieldses (Ok (a, b, c)) f g = f a b c refl
+fieldses (Err i) f g = g i refl
 
 -- what a letter says of its numbers is written with that letter, and can be said
 record Spoken (t a b c : ℕ) : Type 0 where
@@ -122,17 +121,14 @@ pub lines_written : (l : Line) (s : List ℕ) → Sayable l → lines (line_text
 unfolding line_text rule_text
 lines_written (Head a b) s h = lines_letters letter_t 2 a b 0 s (λ e. omega arith)
 lines_written (State a b c) s h = lines_letters letter_s 3 a b c s (λ e. omega arith)
-lines_written (Rule k a b q) s h =
-    split (eqb k 0)
-    (λ t. rw t (lines_letters letter_l 2 a q 0 s (λ e. omega arith)))
-    (λ t. split (eqb k 1)
-    (λ u. rw (t, u) (lines_letters letter_p 3 a b q s (λ e. omega arith)))
-    (λ u. rw (t, u) (lines_letters letter_e 2 a q 0 s (λ e. omega arith))))
+lines_written (Rule r) s h =
+    split (eqb r.kind 0)
+    (λ t. rw t (lines_letters letter_l 2 r.left r.to 0 s (λ e. omega arith)))
+    (λ t. split (eqb r.kind 1)
+    (λ u. rw (t, u) (lines_letters letter_p 3 r.left r.right r.to s (λ e. omega arith)))
+    (λ u. rw (t, u) (lines_letters letter_e 2 r.left r.to 0 s (λ e. omega arith))))
 lines_written (Faulty i) s h = absurd h
 
--- writing: the same bytes by another name
-pub wrote_as : {o o' : List ℕ} {at r : ℕ} {bs cs : List ℕ} → bs ≡ cs → Wrote o at bs r o' → Wrote o at cs r o'
-wrote_as e w = rw e at w
-
+-- writing nothing
 pub wrote_nothing : (o : List ℕ) (at : ℕ) → Wrote o at [] at o
 wrote_nothing o at = record { fits = λ h. put_none o at; lacks = λ h. (refl, refl) }

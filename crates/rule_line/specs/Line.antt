@@ -1,9 +1,7 @@
 -- One line of a rule text, of one of the five shapes: what it says, and how it is written.
-use Rattle.std.specs.Prelude.{ℕ, List, [], cond, eqb, get_or}
+use Rattle.std.specs.Prelude.{ℕ, List, [], cond, eqb, get_or, Ok, Err}
 use Rattle.paper.specs.Limits.{leaf_kind, join_kind, eps_kind}
-use Rattle.lines.specs.Fields.{fields, letters}
-use Rattle.lines.specs.declared.Fields.{Fields}
-use Rattle.lines.specs.declared.Fields.TheVariants.{Got, Wrong}
+use Rattle.lines.specs.Fields.{Fields, fields, letters}
 use Rattle.rule_line.specs.declared.Line.{Line}
 use Rattle.rule_line.specs.declared.Line.TheVariants.{Head, State, Rule, Faulty}
 
@@ -29,16 +27,19 @@ count t =
     cond (eqb t letter_t) 2
     (cond (eqb t letter_s) 3 (cond (eqb t letter_l) 2 (cond (eqb t letter_p) 3 (cond (eqb t letter_e) 2 0))))
 
--- what a letter says with its numbers: T symbols states, S state sort final, L symbol state, P left right state, E from to;
--- a rule is its kind, two numbers and its state
+-- a rule: its kind, two numbers and its state
+abbrev pub rule_of : ℕ → ℕ → ℕ → ℕ → Line
+rule_of k a b q = Rule (record { kind = k; left = a; right = b; to = q })
+
+-- what a letter says with its numbers: T symbols states, S state sort final, L symbol state, P left right state, E from to
 unfoldable pub says : ℕ → ℕ → ℕ → ℕ → Line
 says t a b c =
     cond (eqb t letter_t) (Head a b)
-    (cond (eqb t letter_s) (State a b c) (cond (eqb t letter_l) (Rule leaf_kind a 0 b) (cond (eqb t letter_p) (Rule join_kind a b c) (Rule eps_kind a 0 b))))
+    (cond (eqb t letter_s) (State a b c) (cond (eqb t letter_l) (rule_of leaf_kind a 0 b) (cond (eqb t letter_p) (rule_of join_kind a b c) (rule_of eps_kind a 0 b))))
 
 abbrev pub said : ℕ → Fields → Line
-said t (Got a b c) = says t a b c
-said t (Wrong i) = Faulty i
+said t (Ok (a, b, c)) = says t a b c
+said t (Err i) = Faulty i
 
 -- what the line x says; where it has none of the five shapes, the first byte at which none could go on
 unfoldable pub line : List ℕ → Line
@@ -52,5 +53,5 @@ rule_text k a b q = cond (eqb k leaf_kind) (letters letter_l 2 a q 0) (cond (eqb
 unfoldable pub line_text : Line → List ℕ
 line_text (Head a b) = letters letter_t 2 a b 0
 line_text (State a b c) = letters letter_s 3 a b c
-line_text (Rule k a b q) = rule_text k a b q
+line_text (Rule r) = rule_text r.kind r.left r.right r.to
 line_text (Faulty i) = []

@@ -3,24 +3,21 @@
 // specs/Part has which part it is.
 #![tactic(auto)]
 
-ghost use Rattle.std.specs.Prelude.{◌≡◌};
+ghost use Rattle.std.specs.Prelude.{◌≡◌, ◌-◌, true, SomeIff};
 ghost use Rattle.paper.specs.Limits.{limits};
-ghost use Rattle.paper.specs.Told.{place_of};
+ghost use Rattle.paper.specs.Told.{is_refusal, place_of};
 ghost use Rattle.rule_read.specs.Text.{text_told};
 ghost use Rattle.rule_part.specs.Part.{faulty_part};
 
-use rule_read::Reading;
-
-// The line at which a text is refused, counted from 1, or 0.
-fn refused_at(text: &[u8]) -> usize
-    ensures { result ≡ place_of (text_told limits text.now) }
+// The line at which a text is refused, counted from 0, if it is refused.
+fn refused_at(text: &[u8]) -> Option<usize>
+    ensures { SomeIff result (is_refusal (text_told limits text.now) ≡ true) (place_of (text_told limits text.now) - 1) }
 {
     let mut ms = [0u16; paper::STATES];
     let mut xs = [0u16; paper::RULE_NUMBERS];
-    let found = rule_read::read_text(text, &mut ms, &mut xs);
-    match found {
-        Reading::Refused(x) => x.place,
-        Reading::Read(_, _, _) => 0,
+    match rule_read::read_text(text, &mut ms, &mut xs) {
+        Ok(_) => None,
+        Err(refusal) => Some(refusal.place - 1),
     }
 }
 
@@ -28,13 +25,11 @@ fn refused_at(text: &[u8]) -> usize
 pub fn faulty_line<'a>(sender: &'a [u8], receiver: &'a [u8]) -> &'a [u8]
     ensures { result.now ≡ faulty_part limits sender.now receiver.now }
 {
-    let s = refused_at(sender);
-    if 0 < s {
-        return lines::line(sender, s - 1);
+    if let Some(s) = refused_at(sender) {
+        return lines::line(sender, s);
     }
-    let r = refused_at(receiver);
-    if 0 < r {
-        return lines::line(receiver, r - 1);
+    if let Some(r) = refused_at(receiver) {
+        return lines::line(receiver, r);
     }
     &receiver[0..0]
 }

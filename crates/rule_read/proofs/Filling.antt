@@ -7,11 +7,11 @@ use lib.Seq.{length-take-le}
 use Rattle.paper.specs.Limits.{Limits}
 use Rattle.paper.specs.Told.{Told, refused, holds, refusal, is_refusal, filled}
 use Rattle.paper.specs.declared.Refusal.{Refusal}
-use Rattle.rule_read.specs.Text.{said_by, marks_of, rules_of, read_told, told, Reads}
+use Rattle.rule_read.specs.Text.{Reading, said_by, marks_of, rules_of, read_told, told, Reads}
 use Rattle.table.specs.Room.{NoRoom}
 use Rattle.rule_read.specs.Work.{Answers}
-use Rattle.rule_read.specs.declared.Reading.{Reading}
-use Rattle.rule_read.specs.declared.Reading.TheVariants.{Read, Refused}
+use Rattle.std.specs.Prelude.{Ok, Err}
+use Rattle.table.specs.declared.Sizes.{Sizes}
 use Rattle.rule_read.proofs.Exact.{read_short, read_on}
 
 -- a slice after an answer
@@ -40,22 +40,22 @@ module _ (L : Limits) (s M W : List ℕ) where
         rules = sym (fill_refused (read_told L s M W) (rules_of (said_by s)) W e);
       }
 
-  pub reads_short : {x : Reading} → NoRoom L M W → x ≡ Refused (record { number = 1; side = 0; place = 0 }) → Reads L s M W x M W
-  reads_short h e = reads_unfilled (ap told e ∙ sym (read_short L s M W h)) (read_short L s M W h)
+  pub reads_short : {x : Refusal} → NoRoom L M W → x ≡ record { number = 1; side = 0; place = 0 } → Reads L s M W (Err x) M W
+  reads_short h e = reads_unfilled (ap refusal e ∙ sym (read_short L s M W h)) (read_short L s M W h)
 
   module _ {a : Reading} {M₁ W₁ : List ℕ} (h : ¬ NoRoom L M W) (g : Answers L s a M₁ W₁) where
-    pub reads_refused : {x : Refusal} → a ≡ Refused x → Reads L s M W (Refused x) M W
+    pub reads_refused : {x : Refusal} → a ≡ Err x → Reads L s M W (Err x) M W
     reads_refused {x} e =
         let q : refusal x ≡ read_told L s M W = ap told (sym e) ∙ g.answer ∙ sym (read_on L s M W h) in
         reads_unfilled q (sym q)
 
-    pub reads_table : {y n r : ℕ} {M' W' : List ℕ} → a ≡ Read y n r → M' ≡ take n M₁ ++ drop n M
-        → W' ≡ take (r * L.width) W₁ ++ drop (r * L.width) W → Reads L s M W (Read y n r) M' W'
-    reads_table {y} {n} {r} e u v =
-        let q : holds y n r ≡ read_told L s M W = ap told (sym e) ∙ g.answer ∙ sym (read_on L s M W h) in
+    pub reads_table : {x : Sizes} {M' W' : List ℕ} → a ≡ Ok x → M' ≡ take x.states M₁ ++ drop x.states M
+        → W' ≡ take (x.rules * L.width) W₁ ++ drop (x.rules * L.width) W → Reads L s M W (Ok x) M' W'
+    reads_table {x} e u v =
+        let q : holds x.symbols x.states x.rules ≡ read_told L s M W = ap told (sym e) ∙ g.answer ∙ sym (read_on L s M W h) in
         let f = g.fronts e in
         record {
           answer = q;
-          marks = u ∙ fill_front (read_told L s M W) (marks_of (said_by s)) M (sym q) n M₁ f.marks f.marks_in;
-          rules = v ∙ fill_front (read_told L s M W) (rules_of (said_by s)) W (sym q) (r * L.width) W₁ f.rules f.rules_in;
+          marks = u ∙ fill_front (read_told L s M W) (marks_of (said_by s)) M (sym q) x.states M₁ f.marks f.marks_in;
+          rules = v ∙ fill_front (read_told L s M W) (rules_of (said_by s)) W (sym q) (x.rules * L.width) W₁ f.rules f.rules_in;
         }

@@ -8,17 +8,17 @@ use borrow.Author.Count.{below_more}
 use lib.ListN.{length, take, drop}
 use lib.Seq.{take-length}
 use Rattle.paper.specs.Limits.{Limits}
-use Rattle.paper.specs.Told.{refused}
+use Rattle.paper.specs.Told.{refused, refusal}
 use Rattle.paper.specs.First.{Clear}
 use Rattle.lines.specs.Lines.{line_end_of, Starts}
 use Rattle.lines.proofs.LinesLaws.{starts_next}
 use Rattle.table.specs.Check.{TooLarge}
 use Rattle.rule_line.specs.Line.{line}
 use Rattle.rule_line.specs.declared.Line.{Line}
-use Rattle.rule_read.specs.Text.{said_by, marks_of, rules_of, symbols_of, states_of, line_fault_of, fault_at, text_told, told}
+use Rattle.rule_read.specs.Text.{Reading, said_by, marks_of, rules_of, symbols_of, states_of, line_fault_of, fault_at, text_told}
 use Rattle.rule_read.specs.Work.{saying_at, Room, Fronts, Fits, Stored, Headed, Answers}
-use Rattle.rule_read.specs.declared.Reading.{Reading}
-use Rattle.rule_read.specs.declared.Reading.TheVariants.{Read, Refused}
+use Rattle.std.specs.Prelude.{Ok, Err}
+use Rattle.paper.specs.declared.Refusal.{Refusal}
 use Rattle.rule_read.proofs.Verdict.{head_fault, none, fault_behind}
 use Rattle.rule_read.proofs.Said.{Wide, line_there, line_missing, line_says}
 use Rattle.rule_read.proofs.ListLaws.{head_said}
@@ -27,19 +27,9 @@ use Rattle.rule_read.proofs.Storing.{fits_line, fronts_more}
 use Rattle.rule_read.proofs.Exact.{text_fault, text_short, text_table}
 
 -- a refusal that a text tells
-pub answers_refused : (L : Limits) (s : List ℕ) {f k : ℕ} {r : Reading} (M W : List ℕ)
-    → r ≡ Refused (record { number = f; side = 0; place = k }) → text_told L s ≡ refused f 0 k → Answers L s r M W
-answers_refused L s {f} {k} {r} M W e t =
-    record {
-      answer = ap told e ∙ sym t;
-      fronts = λ {y} {n} {k = m} x.
-          let q : Refused (record { number = f; side = 0; place = k }) ≡ Read y n m = sym e ∙ x in
-          let z : ◌≡◌ {A = ℕ} 0 1 = cc in
-          absurd (nonsense z);
-    }
-  where
-    nonsense : ◌≡◌ {A = ℕ} 0 1 → ⊥
-    nonsense z = omega arith
+pub answers_refused : (L : Limits) (s : List ℕ) {f k : ℕ} {x : Refusal} (M W : List ℕ)
+    → x ≡ record { number = f; side = 0; place = k } → text_told L s ≡ refused f 0 k → Answers L s (Err x) M W
+answers_refused L s M W e t = record { answer = ap refusal e ∙ sym t; fronts = λ q. let z : ⊥ = cc in absurd z }
 
 pub record Going (L : Limits) (s : List ℕ) (y n : ℕ) (M W : List ℕ) (at k m r : ℕ) : Type 0 where
   pub symbols : symbols_of (said_by s) ≡ y
@@ -52,6 +42,15 @@ pub record Going (L : Limits) (s : List ℕ) (y n : ℕ) (M W : List ℕ) (at k 
   pub counted : Counted L (said_by s) k m r
   pub fronts : Fronts L.width (take k (said_by s)) M W m r
   pub room : Room L M W
+
+-- what a reading counts
+abbrev states_in : Reading → ℕ
+states_in (Ok x) = x.states
+states_in (Err x) = 0
+
+abbrev rules_in : Reading → ℕ
+rules_in (Ok x) = x.rules
+rules_in (Err x) = 0
 
 none_of : (xs : List ℕ) → length xs ≡ 0 → [] ≡ xs
 none_of [] e = refl
@@ -98,7 +97,7 @@ module _ (L : Limits) (wide : Wide L.width) where
           fault_behind L (said_by s) k g.behind
           ∙ rw (g.symbols, g.states, g.counted.marks, sym g.fronts.rules, sym is_line) (sym hf)
 
-      pub going_refused : {x : Reading} (M' W' : List ℕ) → x ≡ Refused (record { number = f; side = 0; place = k + 1 }) → f ≢ 0 → Answers L s x M' W'
+      pub going_refused : {x : Refusal} (M' W' : List ℕ) → x ≡ record { number = f; side = 0; place = k + 1 } → f ≢ 0 → Answers L s (Err x) M' W'
       going_refused M' W' ex d =
           answers_refused L s M' W' ex
           (text_fault L s (record { inside = line_there g.starts ha; here = fault_here; fault = d; before = g.clear }))
@@ -136,19 +135,19 @@ module _ (L : Limits) (wide : Wide L.width) where
       clear_all : Clear (fault_at L (said_by s)) (length (said_by s))
       clear_all j h = g.clear j (omega (arith, at_end))
 
-      pub going_short : {x : Reading} (M' W' : List ℕ) → x ≡ Refused (record { number = 3; side = 0; place = k + 1 }) → m < n → Answers L s x M' W'
+      pub going_short : {x : Refusal} (M' W' : List ℕ) → x ≡ record { number = 3; side = 0; place = k + 1 } → m < n → Answers L s (Err x) M' W'
       going_short M' W' ex h =
           answers_refused L s M' W' ex
           (text_short L s clear_all (counted_short L wide (said_by s) g.counted at_end (omega (arith, g.states))) ∙ rw (sym at_end) refl)
 
-      pub going_table : n ≤ m → Answers L s (Read y m r) M W
+      pub going_table : n ≤ m → Answers L s (Ok (record { symbols = y; states = m; rules = r })) M W
       going_table h =
           record {
             answer = sym
                 (text_table L s clear_all (counted_whole L wide (said_by s) g.counted at_end (omega (arith, g.states)))
                 ∙ rw (g.symbols, counted_marks L wide (said_by s) g.counted at_end, rows L wide (rules_of (said_by s)) r (counted_rules L wide (said_by s) g.counted at_end)) refl);
-            fronts = λ {y = y'} {n = n'} {k = k'} e.
-                let a : m ≡ n' = cc in
-                let b : r ≡ k' = cc in
+            fronts = λ {x} e.
+                let a : m ≡ x.states = ap states_in e in
+                let b : r ≡ x.rules = ap rules_in e in
                 rw (sym a, sym b) (rw (ap (λ (i : ℕ). take i (said_by s)) at_end ∙ take-length (said_by s)) at g.fronts);
           }

@@ -15,6 +15,7 @@ use Rattle.paper.specs.First.{Clear}
 use Rattle.table.specs.Check.{TooLarge, BadMark, Misshapen, OutOfRange, HasRow, GoodRule, Sound, table_checked, BadSort}
 use Rattle.table.proofs.Exact.{passes_exactly}
 use Rattle.rule_line.specs.Line.{line}
+use Rattle.paper.specs.declared.RuleRow.{RuleRow}
 use Rattle.rule_line.specs.declared.Line.{Line}
 use Rattle.rule_line.specs.declared.Line.TheVariants.{Head, State, Rule, Faulty}
 use Rattle.rule_line.proofs.LineLaws.{Sayable, line_known}
@@ -31,10 +32,10 @@ use Rattle.rule_read.proofs.Exact.{text_holds}
 abbrev Shaped : Line → Type 0
 Shaped (Head a b) = Unit
 Shaped (State q s f) = Unit
-Shaped (Rule k a b q) = ¬ Misshapen k b
+Shaped (Rule r) = ¬ Misshapen r.kind r.right
 Shaped (Faulty i) = Unit
 
-rule_not_faulty : {k a b q i : ℕ} → Rule k a b q ≡ Faulty i → ⊥
+rule_not_faulty : {r : RuleRow} {i : ℕ} → Rule r ≡ Faulty i → ⊥
 rule_not_faulty e = let z : ◌≡◌ {A = ℕ} 0 1 = cc in omega arith
 
 line_shaped : (x : List ℕ) → Shaped (line x)
@@ -44,8 +45,8 @@ line_shaped x = go (line x) refl
     go (Head a b) e = tt
     go (State q s f) e = tt
     go (Faulty i) e = tt
-    go (Rule k a b q) e =
-        let w : Sayable (Rule k a b q) = rw e at (line_known x (λ i z. rule_not_faulty (sym e ∙ z))).sayable in
+    go (Rule r) e =
+        let w : Sayable (Rule r) = rw e at (line_known x (λ i z. rule_not_faulty (sym e ∙ z))).sayable in
         ⊎_elim (λ h. omega (arith, w.0)) (λ h. h.1 (w.4 h.0))
 
 -- marks and r rules without a fault
@@ -103,14 +104,14 @@ module _ (L : Limits) (wide : Wide L.width) (y n : ℕ) where
             rw (get_or-append ms ((2 * s + f) ∷ []) 0 i x') (g.marks i x'));
         rules = λ i x. rw (append-nil xs) (g.rules i (omega arith));
       }
-  good_line {ms} {xs} {r} e (rule {k} {a} {b} {q} u v w x) h g =
+  good_line {ms} {xs} {r} e (rule {r = t} u v w x) h g =
       record {
         marks = rw (append-nil ms) g.marks;
         rules = λ i z. by_cases (ℕ_discrete i r)
-            (λ d. rw d (good_last xs r k a b q e h w (rw (rows L wide xs r e) at x)))
+            (λ d. rw d (good_last xs r t.kind t.left t.right t.to e h w (rw (rows L wide xs r e) at x)))
             (λ d.
             let z' : i < r = omega arith in
-            good_before xs (k ∷ a ∷ b ∷ q ∷ []) i (omega (arith, row_within L.width r i z')) (g.rules i z'));
+            good_before xs (t.kind ∷ t.left ∷ t.right ∷ t.to ∷ []) i (omega (arith, row_within L.width r i z')) (g.rules i z'));
       }
 
 not_large : (L : Limits) {y n r : ℕ} → ¬ TooLarge L y n 0 → r ≤ L.rules → ¬ TooLarge L y n r

@@ -9,7 +9,7 @@ use lib.Seq.{take-suc}
 use Rattle.paper.specs.Limits.{limits}
 use Rattle.lines.specs.Lines.{lines, line_end_of, line_at, Starts}
 use Rattle.lines.proofs.LinesLaws.{lines_at, line_part}
-use Rattle.rule_line.specs.Line.{count, line}
+use Rattle.rule_line.specs.Line.{rule_of, count, line}
 use Rattle.rule_line.specs.declared.Line.{Line}
 use Rattle.rule_line.specs.declared.Line.TheVariants.{Head, State, Rule, Faulty}
 use Rattle.rule_read.specs.Text.{said_by, mark_of, the_rule_of, marks_of, rules_of}
@@ -64,7 +64,7 @@ module _ (ls : List Line) (k : ℕ) {l : Line} (h : k < length ls) (e : l ≡ sa
 
 -- a rule line adds as many numbers as a rule has
 abbrev pub Wide : ℕ → Type 0
-Wide w = (k a b q : ℕ) → length (the_rule_of (Rule k a b q)) ≡ w
+Wide w = (k a b q : ℕ) → length (the_rule_of (rule_of k a b q)) ≡ w
 
 module _ {w : ℕ} (wide : Wide w) where
   pub wide_positive : 0 < w
@@ -75,7 +75,7 @@ module _ {w : ℕ} (wide : Wide w) where
   unfolding the_rule_of rows_of
   rule_length (Head a b) = omega arith
   rule_length (State q s f) = omega arith
-  rule_length (Rule k a b q) = omega (arith, wide k a b q)
+  rule_length (Rule r) = omega (arith, wide r.kind r.left r.right r.to)
   rule_length (Faulty i) = omega arith
 
 pub wide_limits : Wide limits.width

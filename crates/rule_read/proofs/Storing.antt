@@ -1,13 +1,14 @@
--- The work slices: what a line adds is stored, what stands at their fronts, and a copy to the lent slices. Assumes nothing.
-use Prim.Native.Nat.{ℕ, suc, ◌+◌, ◌*◌, ◌≤◌, ◌<◌}
+-- The work slices: what a line adds is stored, and what stands at their fronts. Assumes nothing.
+use Prim.Native.Nat.{ℕ, ◌+◌, ◌*◌, ◌≤◌, ◌<◌}
 use mathlib.Core.Path.{◌≡◌, refl, sym, ap, ◌∙◌}
 use mathlib.Core.List.{List, [], ◌∷◌, ◌++◌, append-nil}
 use native.Mathlib.Numerals.{add-one}
 use native.Mathlib.Nat.{add-mul, mul-le-mul_right}
 use native.Mathlib.Omega.{arith}
-use lib.ListN.{length, get_or, take, drop, set, length-append}
-use lib.Seq.{sets, sets-eq, take-suc, take-suc-set, take_at, length-take-le, set_at, append_snoc, drop-cons}
+use lib.ListN.{length, take, drop, set, length-append}
+use lib.Seq.{sets, sets-eq, take-suc-set, take_at, length-take-le}
 use Rattle.paper.specs.Limits.{Limits}
+use Rattle.paper.specs.declared.RuleRow.{RuleRow}
 use Rattle.rule_line.specs.declared.Line.{Line}
 use Rattle.rule_line.specs.declared.Line.TheVariants.{Head, State, Rule, Faulty}
 use Rattle.rule_read.specs.Text.{mark_of, the_rule_of}
@@ -21,7 +22,7 @@ module _ {w : ℕ} {M W : List ℕ} {m r : ℕ} {l : Line} (h : Fits w M W m r l
   unfolding mark_of
   fits_state e = let a = rw e at h.marks in let b = rw e at h.small in (omega (arith, a), b)
 
-  pub fits_rule : {k a b q : ℕ} → l ≡ Rule k a b q → r * w + length (k ∷ a ∷ b ∷ q ∷ []) ≤ length W
+  pub fits_rule : {t : RuleRow} → l ≡ Rule t → r * w + length (t.kind ∷ t.left ∷ t.right ∷ t.to ∷ []) ≤ length W
   unfolding the_rule_of
   fits_rule e = rw e at h.rules
 
@@ -45,14 +46,14 @@ module _ (w : ℕ) (M W : List ℕ) (m r : ℕ) {l : Line} where
         rules = sym (append-nil (take (r * w) W));
       })
 
-  pub stored_rule : {k a b q : ℕ} {W' : List ℕ} → Wide w → l ≡ Rule k a b q → r * w + length (k ∷ a ∷ b ∷ q ∷ []) ≤ length W
-      → W' ≡ sets W (r * w) (k ∷ a ∷ b ∷ q ∷ []) → Stored w M W m r l m (r + 1) M W'
+  pub stored_rule : {t : RuleRow} {W' : List ℕ} → Wide w → l ≡ Rule t → r * w + length (t.kind ∷ t.left ∷ t.right ∷ t.to ∷ []) ≤ length W
+      → W' ≡ sets W (r * w) (t.kind ∷ t.left ∷ t.right ∷ t.to ∷ []) → Stored w M W m r l m (r + 1) M W'
   unfolding mark_of the_rule_of rows_of
-  stored_rule {k} {a} {b} {q} {W'} wide e h s =
-      let vs : List ℕ = k ∷ a ∷ b ∷ q ∷ [] in
+  stored_rule {t} {W'} wide e h s =
+      let vs : List ℕ = t.kind ∷ t.left ∷ t.right ∷ t.to ∷ [] in
       let n : length (take (r * w) W ++ vs) ≡ (r + 1) * w =
       length-append (take (r * w) W) vs
-      ∙ omega (arith, length-take-le (r * w) W (omega arith), wide k a b q, add-mul r 1 w) in
+      ∙ omega (arith, length-take-le (r * w) W (omega arith), wide t.kind t.left t.right t.to, add-mul r 1 w) in
       rw e (record {
         marks_more_of = omega arith;
         rules_more_of = refl;
@@ -84,9 +85,3 @@ module _ (L : Limits) (wide : Wide L.width) {m r : ℕ} {M W : List ℕ} {l : Li
         rules_in =
             omega (arith, g.rules, rule_length wide l, add-mul r (rows_of l) L.width, ap (λ (i : ℕ). i * L.width) st.rules_more_of);
       }
-
--- a copy, one number more
-pub copied : (d s : List ℕ) (i : ℕ) → i < length d → i < length s → set (take i s ++ drop i d) i (get_or s i 0) ≡ take (i + 1) s ++ drop (i + 1) d
-copied d s i h g =
-    rw (drop-cons d i 0 h, set_at (take i s) (get_or d i 0) (drop (suc i) d) (get_or s i 0) i (length-take-le i s (omega arith)))
-    (sym (append_snoc (take i s) (get_or s i 0) (drop (suc i) d)) ∙ rw (add-one i, take-suc s i 0 g))

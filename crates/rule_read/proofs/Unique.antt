@@ -5,24 +5,27 @@ use mathlib.Core.List.{List}
 use Rattle.paper.specs.Limits.{Limits}
 use Rattle.paper.specs.Told.{holds}
 use Rattle.paper.proofs.ToldLaws.{refusal_unique}
-use Rattle.rule_read.specs.Text.{told, Reads}
-use Rattle.rule_read.specs.declared.Reading.{Reading}
-use Rattle.rule_read.specs.declared.Reading.TheVariants.{Read, Refused}
+use Rattle.rule_read.specs.Text.{Reading, told, Reads}
+use Rattle.std.specs.Prelude.{Ok, Err}
+use Rattle.table.specs.declared.Sizes.{Sizes}
 use Rattle.rule_read.proofs.Exact.{refused_not_holds}
 
-same_table : {y n r y' n' r' : ℕ} → holds y n r ≡ holds y' n' r' → Read y n r ≡ Read y' n' r'
-same_table {y} {n} {r} {y'} {n'} {r'} e =
-    let a : y ≡ y' = cc in
-    let b : n ≡ n' = cc in
-    let c : r ≡ r' = cc in
-    cc
+abbrev with : ℕ → ℕ → ℕ → Reading
+with n m k = Ok (record { symbols = n; states = m; rules = k })
+
+same_table : (x y : Sizes) → holds x.symbols x.states x.rules ≡ holds y.symbols y.states y.rules → ◌≡◌ {A = Reading} (Ok x) (Ok y)
+same_table x y e =
+    let a : x.symbols ≡ y.symbols = cc in
+    let b : x.states ≡ y.states = cc in
+    let c : x.rules ≡ y.rules = cc in
+    ap (λ (n : ℕ). with n x.states x.rules) a ∙ ap (λ (n : ℕ). with y.symbols n x.rules) b ∙ ap (λ (n : ℕ). with y.symbols y.states n) c
 
 -- the answer is the only one that tells what is told
 pub told_unique : (a b : Reading) → told a ≡ told b → a ≡ b
-told_unique (Read y n r) (Read y' n' r') e = same_table e
-told_unique (Read y n r) (Refused x) e = absurd (refused_not_holds (sym e))
-told_unique (Refused x) (Read y n r) e = absurd (refused_not_holds e)
-told_unique (Refused x) (Refused x') e = ap Refused (refusal_unique x x' e)
+told_unique (Ok x) (Ok y) e = same_table x y e
+told_unique (Ok y) (Err x) e = absurd (refused_not_holds (sym e))
+told_unique (Err x) (Ok y) e = absurd (refused_not_holds e)
+told_unique (Err x) (Err x') e = ap Err (refusal_unique x x' e)
 
 pub reads_unique : (L : Limits) (s M W : List ℕ) {a b : Reading} {M₁ W₁ M₂ W₂ : List ℕ} → Reads L s M W a M₁ W₁ → Reads L s M W b M₂ W₂
     → (a ≡ b) × ((M₁ ≡ M₂) × (W₁ ≡ W₂))

@@ -8,6 +8,7 @@ use native.Mathlib.Omega.{arith}
 use lib.ListN.{length, take}
 use Rattle.paper.specs.Limits.{Limits}
 use Rattle.table.specs.Check.{TooLarge, OutOfRange, HasRow, too_large?, out_of_range?, has_row?, BadSort, bad_sort?}
+use Rattle.paper.specs.declared.RuleRow.{RuleRow}
 use Rattle.rule_line.specs.declared.Line.{Line}
 use Rattle.rule_line.specs.declared.Line.TheVariants.{Head, State, Rule, Faulty}
 use Rattle.rule_read.specs.Text.{marks_of, rules_of, symbols_of, states_of, OutOfOrder, out_of_order?}
@@ -19,7 +20,7 @@ module _ (L : Limits) where
   pub data HeadVerdict : Line → ℕ → Type 0 where
     shape : {i : ℕ} → HeadVerdict (Faulty i) 2
     state_first_of : {q s f : ℕ} → HeadVerdict (State q s f) 3
-    rule_first : {k a b q : ℕ} → HeadVerdict (Rule k a b q) 3
+    rule_first : {r : RuleRow} → HeadVerdict (Rule r) 3
     size : {y n : ℕ} → TooLarge L y n 0 → HeadVerdict (Head y n) 4
     none : {y n : ℕ} → ¬ TooLarge L y n 0 → HeadVerdict (Head y n) 0
 
@@ -34,7 +35,7 @@ module _ (L : Limits) where
   pub head_verdict : (l : Line) → (f : ℕ) × HeadVerdict l f
   head_verdict (Head y n) = by_cases (too_large? L y n 0) (λ h. (4, size h)) (λ h. (0, none h))
   head_verdict (State q s f) = (3, state_first_of)
-  head_verdict (Rule k a b q) = (3, rule_first)
+  head_verdict (Rule r) = (3, rule_first)
   head_verdict (Faulty i) = (2, shape)
 
 -- an S line behind m of n S lines
@@ -86,8 +87,8 @@ module _ (L : Limits) (y n m : ℕ) (rs : List ℕ) where
   -- nothing is wrong with it
   pub data Right : Line → Type 0 where
     state : {q s f : ℕ} → ¬ OutOfOrder n m q → ¬ BadSort s f → Right (State q s f)
-    rule : {k a b q : ℕ} → ¬ (m < n) → ¬ (L.rules ≤ length rs / L.width) → ¬ OutOfRange y n k a b q
-        → ¬ HasRow L.width rs (length rs / L.width) k a b q → Right (Rule k a b q)
+    rule : {r : RuleRow} → ¬ (m < n) → ¬ (L.rules ≤ length rs / L.width) → ¬ OutOfRange y n r.kind r.left r.right r.to
+        → ¬ HasRow L.width rs (length rs / L.width) r.kind r.left r.right r.to → Right (Rule r)
 
   -- the lowest number that is wrong with it
   pub data Verdict : Line → ℕ → Type 0 where
@@ -95,11 +96,12 @@ module _ (L : Limits) (y n m : ℕ) (rs : List ℕ) where
     second_head : {a b : ℕ} → Verdict (Head a b) 3
     state_order_of : {q s f : ℕ} → OutOfOrder n m q → Verdict (State q s f) 3
     state_sort_of : {q s f : ℕ} → ¬ OutOfOrder n m q → BadSort s f → Verdict (State q s f) 5
-    rule_early_of : {k a b q : ℕ} → m < n → Verdict (Rule k a b q) 3
-    rule_many_of : {k a b q : ℕ} → ¬ (m < n) → L.rules ≤ length rs / L.width → Verdict (Rule k a b q) 4
-    rule_range_of : {k a b q : ℕ} → ¬ (m < n) → ¬ (L.rules ≤ length rs / L.width) → OutOfRange y n k a b q → Verdict (Rule k a b q) 5
-    rule_again_of : {k a b q : ℕ} → ¬ (m < n) → ¬ (L.rules ≤ length rs / L.width) → ¬ OutOfRange y n k a b q
-        → HasRow L.width rs (length rs / L.width) k a b q → Verdict (Rule k a b q) 6
+    rule_early_of : {r : RuleRow} → m < n → Verdict (Rule r) 3
+    rule_many_of : {r : RuleRow} → ¬ (m < n) → L.rules ≤ length rs / L.width → Verdict (Rule r) 4
+    rule_range_of : {r : RuleRow} → ¬ (m < n) → ¬ (L.rules ≤ length rs / L.width) → OutOfRange y n r.kind r.left r.right r.to
+        → Verdict (Rule r) 5
+    rule_again_of : {r : RuleRow} → ¬ (m < n) → ¬ (L.rules ≤ length rs / L.width) → ¬ OutOfRange y n r.kind r.left r.right r.to
+        → HasRow L.width rs (length rs / L.width) r.kind r.left r.right r.to → Verdict (Rule r) 6
     none : {l : Line} → Right l → Verdict l 0
 
   pub line_fault_lem : {l : Line} {f : ℕ} → Verdict l f → line_fault_of L y n m rs l ≡ f
@@ -108,25 +110,25 @@ module _ (L : Limits) (y n m : ℕ) (rs : List ℕ) where
   line_fault_lem second_head = refl
   line_fault_lem (state_order_of {q} {s} {f} o) = state_order n m q s f o
   line_fault_lem (state_sort_of {q} {s} {f} o b) = state_sort n m q s f o b
-  line_fault_lem (rule_early_of {k} {a} {b} {q} u) = rule_early L y n m rs k a b q u
-  line_fault_lem (rule_many_of {k} {a} {b} {q} u v) = rule_many L y n m rs k a b q u v
-  line_fault_lem (rule_range_of {k} {a} {b} {q} u v w) = rule_range L y n m rs k a b q u v w
-  line_fault_lem (rule_again_of {k} {a} {b} {q} u v w x) = rule_again L y n m rs k a b q u v w x
+  line_fault_lem (rule_early_of {r} u) = rule_early L y n m rs r.kind r.left r.right r.to u
+  line_fault_lem (rule_many_of {r} u v) = rule_many L y n m rs r.kind r.left r.right r.to u v
+  line_fault_lem (rule_range_of {r} u v w) = rule_range L y n m rs r.kind r.left r.right r.to u v w
+  line_fault_lem (rule_again_of {r} u v w x) = rule_again L y n m rs r.kind r.left r.right r.to u v w x
   line_fault_lem (none (state {q} {s} {f} o b)) = state_none n m q s f o b
-  line_fault_lem (none (rule {k} {a} {b} {q} u v w x)) = rule_none L y n m rs k a b q u v w x
+  line_fault_lem (none (rule {r} u v w x)) = rule_none L y n m rs r.kind r.left r.right r.to u v w x
 
   pub line_verdict : (l : Line) → (f : ℕ) × Verdict l f
   line_verdict (Head a b) = (3, second_head)
   line_verdict (State q s f) = by_cases (out_of_order? n m q)
       (λ o. (3, state_order_of o))
       (λ o. by_cases (bad_sort? s f) (λ b. (5, state_sort_of o b)) (λ b. (0, none (state o b))))
-  line_verdict (Rule k a b q) = by_cases (dec_lt m n)
+  line_verdict (Rule r) = by_cases (dec_lt m n)
       (λ u. (3, rule_early_of u))
       (λ u. by_cases (dec_le L.rules (length rs / L.width))
       (λ v. (4, rule_many_of u v))
-      (λ v. by_cases (out_of_range? y n k a b q)
+      (λ v. by_cases (out_of_range? y n r.kind r.left r.right r.to)
       (λ w. (5, rule_range_of u v w))
-      (λ w. by_cases (has_row? L.width rs (length rs / L.width) k a b q)
+      (λ w. by_cases (has_row? L.width rs (length rs / L.width) r.kind r.left r.right r.to)
       (λ x. (6, rule_again_of u v w x))
       (λ x. (0, none (rule u v w x))))))
   line_verdict (Faulty i) = (2, shape)

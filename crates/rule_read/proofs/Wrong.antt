@@ -11,6 +11,7 @@ use Rattle.paper.specs.Limits.{Limits}
 use Rattle.paper.specs.Told.{refused}
 use Rattle.paper.specs.First.{Clear}
 use Rattle.table.specs.Check.{TooLarge, BadSort, OutOfRange, HasRow}
+use Rattle.paper.specs.declared.RuleRow.{RuleRow}
 use Rattle.rule_line.specs.declared.Line.{Line}
 use Rattle.rule_line.specs.declared.Line.TheVariants.{Head, State, Rule, Faulty}
 use Rattle.rule_read.specs.Text.{said_by, marks_of, rules_of, symbols_of, states_of, OutOfOrder, TooEarly, TooMany, fault_at, text_told, read_told}
@@ -47,7 +48,7 @@ module _ (L : Limits) where
   state_only : {q s f k : ℕ} → HeadWrong L (State q s f) k → k ≡ 3
   state_only state_first_of = refl
 
-  rule_only : {r a b q k : ℕ} → HeadWrong L (Rule r a b q) k → k ≡ 3
+  rule_only : {r : RuleRow} {k : ℕ} → HeadWrong L (Rule r) k → k ≡ 3
   rule_only rule_first = refl
 
   size_only : {y n k : ℕ} → HeadWrong L (Head y n) k → (k ≡ 4) × TooLarge L y n 0
@@ -76,13 +77,14 @@ module _ (L : Limits) (y n m : ℕ) (rs : List ℕ) where
   state_line (state_order_of o) = inl (refl, o)
   state_line (state_sort_of b) = inr (refl, b)
 
-  abbrev RuleWrongs : ℕ → ℕ → ℕ → ℕ → ℕ → Type 0
-  RuleWrongs r a b q k =
+  abbrev RuleWrongs : RuleRow → ℕ → Type 0
+  RuleWrongs r k =
       ((k ≡ 3) × TooEarly n m)
       ⊎ (((k ≡ 4) × TooMany L rs)
-      ⊎ (((k ≡ 5) × OutOfRange y n r a b q) ⊎ ((k ≡ 6) × HasRow L.width rs (length rs / L.width) r a b q)))
+      ⊎ (((k ≡ 5) × OutOfRange y n r.kind r.left r.right r.to)
+      ⊎ ((k ≡ 6) × HasRow L.width rs (length rs / L.width) r.kind r.left r.right r.to)))
 
-  rule_line_lem : {r a b q k : ℕ} → LineWrong L y n m rs (Rule r a b q) k → RuleWrongs r a b q k
+  rule_line_lem : {r : RuleRow} {k : ℕ} → LineWrong L y n m rs (Rule r) k → RuleWrongs r k
   rule_line_lem (rule_early_of u) = inl (refl, u)
   rule_line_lem (rule_many_of v) = inr (inl (refl, v))
   rule_line_lem (rule_range_of w) = inr (inr (inl (refl, w)))

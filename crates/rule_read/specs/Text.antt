@@ -1,21 +1,23 @@
 -- What reading a rule text tells: refusals 2 to 6 at the first faulty line, in it the lowest number; or the table that the text says.
-use Rattle.std.specs.Prelude.{ℕ, zero, suc, ◌+◌, ◌/◌, ◌≤◌, ◌<◌, ◌≡◌, ◌≢◌, ◌⊎◌, List, [], ◌∷◌, ◌++◌, map, length, get_or, take}
+use Rattle.std.specs.Prelude.{ℕ, zero, suc, ◌+◌, ◌/◌, ◌≤◌, ◌<◌, ◌≡◌, ◌≢◌, ◌⊎◌, List, [], ◌∷◌, ◌++◌, map, length, get_or, take, Result}
 use Rattle.std.proofs.Math.Logic.{ite}
 use Rattle.std.proofs.Math.Logic.Dec
 use Rattle.std.proofs.Math.Decide.{ℕ_discrete, dec_le, dec_lt}
 use Rattle.paper.specs.Limits.{Limits}
-use Rattle.paper.specs.Told.{Told, refused, holds, refusal, filled}
+use Rattle.paper.specs.Told.{Told, refused, holds, filled}
 use Rattle.paper.specs.First.{first}
 use Rattle.paper.specs.Tests.{dec_or}
 use Rattle.table.specs.Rules.{mark_for}
+use Rattle.table.specs.Told.{sizes_told}
 use Rattle.table.specs.Room.{NoRoom, no_room?}
 use Rattle.table.specs.Check.{TooLarge, BadSort, OutOfRange, HasRow, too_large?, bad_sort?, out_of_range?, has_row?}
 use Rattle.lines.specs.Lines.{lines}
 use Rattle.rule_line.specs.Line.{line}
 use Rattle.rule_line.specs.declared.Line.{Line}
 use Rattle.rule_line.specs.declared.Line.TheVariants.{Head, State, Rule, Faulty}
-use Rattle.rule_read.specs.declared.Reading.{Reading}
-use Rattle.rule_read.specs.declared.Reading.TheVariants.{Read, Refused}
+use Rattle.paper.specs.declared.RuleRow.{RuleRow}
+use Rattle.paper.specs.declared.Refusal.{Refusal}
+use Rattle.table.specs.declared.Sizes.{Sizes}
 
 -- what the lines of a text say
 unfoldable pub said_by : List ℕ → List Line
@@ -25,13 +27,13 @@ said_by s = map line (lines s)
 unfoldable pub mark_of : Line → List ℕ
 mark_of (Head a b) = []
 mark_of (State q s f) = mark_for s f ∷ []
-mark_of (Rule k a b q) = []
+mark_of (Rule r) = []
 mark_of (Faulty i) = []
 
 unfoldable pub the_rule_of : Line → List ℕ
 the_rule_of (Head a b) = []
 the_rule_of (State q s f) = []
-the_rule_of (Rule k a b q) = k ∷ a ∷ b ∷ q ∷ []
+the_rule_of (Rule r) = r.kind ∷ r.left ∷ r.right ∷ r.to ∷ []
 the_rule_of (Faulty i) = []
 
 -- the marks and the rules that lines say, in their order
@@ -48,14 +50,14 @@ unfoldable pub symbols_of : List Line → ℕ
 symbols_of [] = 0
 symbols_of (Head y n ∷ ls) = y
 symbols_of (State q s f ∷ ls) = 0
-symbols_of (Rule k a b q ∷ ls) = 0
+symbols_of (Rule r ∷ ls) = 0
 symbols_of (Faulty i ∷ ls) = 0
 
 unfoldable pub states_of : List Line → ℕ
 states_of [] = 0
 states_of (Head y n ∷ ls) = n
 states_of (State q s f ∷ ls) = 0
-states_of (Rule k a b q ∷ ls) = 0
+states_of (Rule r ∷ ls) = 0
 states_of (Faulty i ∷ ls) = 0
 
 -- an S line is out of order, m of n S lines being before it: none is due, or another one
@@ -83,7 +85,7 @@ too_many? L rs = dec_le L.rules (length rs / L.width)
 unfoldable pub head_fault_of : Limits → Line → ℕ
 head_fault_of L (Head y n) = ite (too_large? L y n 0) 4 0
 head_fault_of L (State q s f) = 3
-head_fault_of L (Rule k a b q) = 3
+head_fault_of L (Rule r) = 3
 head_fault_of L (Faulty i) = 2
 
 -- the lowest number that is wrong with a line behind the head of y symbols and n states, or 0: of an S line, m S lines being before it;
@@ -99,7 +101,7 @@ rule_line_fault L y n m rs k a b q =
 unfoldable pub line_fault_of : Limits → ℕ → ℕ → ℕ → List ℕ → Line → ℕ
 line_fault_of L y n m rs (Head a b) = 3
 line_fault_of L y n m rs (State q s f) = state_line_fault n m q s f
-line_fault_of L y n m rs (Rule k a b q) = rule_line_fault L y n m rs k a b q
+line_fault_of L y n m rs (Rule r) = rule_line_fault L y n m rs r.kind r.left r.right r.to
 line_fault_of L y n m rs (Faulty i) = 2
 
 -- the lowest number that is wrong with line k of these lines, counted from 0; what it is held to is the head and the lines before it
@@ -129,7 +131,7 @@ text_told L s =
 pub data HeadWrong (L : Limits) : Line → ℕ → Type 0 where
   head_shape_of : {i : ℕ} → HeadWrong L (Faulty i) 2
   state_first_of : {q s f : ℕ} → HeadWrong L (State q s f) 3
-  rule_first : {k a b q : ℕ} → HeadWrong L (Rule k a b q) 3
+  rule_first : {r : RuleRow} → HeadWrong L (Rule r) 3
   head_size_of : {y n : ℕ} → TooLarge L y n 0 → HeadWrong L (Head y n) 4
 
 -- what can be wrong with a line behind the head of y symbols and n states, each with its number: m S lines and the rules rs are
@@ -139,10 +141,10 @@ pub data LineWrong (L : Limits) (y n m : ℕ) (rs : List ℕ) : Line → ℕ →
   second_head : {a b : ℕ} → LineWrong L y n m rs (Head a b) 3
   state_order_of : {q s f : ℕ} → OutOfOrder n m q → LineWrong L y n m rs (State q s f) 3
   state_sort_of : {q s f : ℕ} → BadSort s f → LineWrong L y n m rs (State q s f) 5
-  rule_early_of : {k a b q : ℕ} → TooEarly n m → LineWrong L y n m rs (Rule k a b q) 3
-  rule_many_of : {k a b q : ℕ} → TooMany L rs → LineWrong L y n m rs (Rule k a b q) 4
-  rule_range_of : {k a b q : ℕ} → OutOfRange y n k a b q → LineWrong L y n m rs (Rule k a b q) 5
-  rule_again_of : {k a b q : ℕ} → HasRow L.width rs (length rs / L.width) k a b q → LineWrong L y n m rs (Rule k a b q) 6
+  rule_early_of : {r : RuleRow} → TooEarly n m → LineWrong L y n m rs (Rule r) 3
+  rule_many_of : {r : RuleRow} → TooMany L rs → LineWrong L y n m rs (Rule r) 4
+  rule_range_of : {r : RuleRow} → OutOfRange y n r.kind r.left r.right r.to → LineWrong L y n m rs (Rule r) 5
+  rule_again_of : {r : RuleRow} → HasRow L.width rs (length rs / L.width) r.kind r.left r.right r.to → LineWrong L y n m rs (Rule r) 6
 
 -- what can be wrong with line k of these lines, counted from 0
 abbrev pub WrongAt : Limits → List Line → ℕ → ℕ → Type 0
@@ -168,10 +170,13 @@ pub data ReadRefused (L : Limits) (s M W : List ℕ) : ℕ → ℕ → ℕ → T
   short_slice : NoRoom L M W → ReadRefused L s M W 1 0 0
   bad_text : {n d p : ℕ} → ¬ NoRoom L M W → TextRefused L s n d p → ReadRefused L s M W n d p
 
+-- what reading a rule text answers: the sizes of its table, or a refusal
+abbrev pub Reading : Type 0
+Reading = Result Sizes Refusal
+
 -- what the reader's answer tells
 abbrev pub told : Reading → Told
-told (Read y n r) = holds y n r
-told (Refused x) = refusal x
+told = sizes_told
 
 -- what the reader answers, and what it leaves in the slices
 pub record Reads (L : Limits) (s M W : List ℕ) (r : Reading) (M' W' : List ℕ) : Type 0 where

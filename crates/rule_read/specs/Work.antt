@@ -1,14 +1,13 @@
 -- What the reader keeps while it reads: two work slices, with the marks and the rules of the lines so far at their fronts.
-use Rattle.std.specs.Prelude.{ℕ, ◌+◌, ◌*◌, ◌≤◌, ◌≡◌, List, ◌++◌, length, get_or, take}
+use Rattle.std.specs.Prelude.{ℕ, ◌+◌, ◌*◌, ◌≤◌, ◌≡◌, List, ◌++◌, length, get_or, take, Ok}
 use Rattle.paper.specs.Limits.{Limits, at}
 use Rattle.lines.specs.Number.{most_number}
 use Rattle.lines.specs.Lines.{Starts}
 use Rattle.table.specs.Check.{TooLarge}
 use Rattle.rule_line.specs.declared.Line.{Line}
 use Rattle.rule_line.specs.declared.Line.TheVariants.{Head, State, Rule, Faulty}
-use Rattle.rule_read.specs.Text.{said_by, mark_of, the_rule_of, marks_of, rules_of, text_told, told}
-use Rattle.rule_read.specs.declared.Reading.{Reading}
-use Rattle.rule_read.specs.declared.Reading.TheVariants.{Read}
+use Rattle.table.specs.declared.Sizes.{Sizes}
+use Rattle.rule_read.specs.Text.{Reading, said_by, mark_of, the_rule_of, marks_of, rules_of, text_told, told}
 
 -- what line k of these lines says, counted from 0
 abbrev pub saying_at : List Line → ℕ → Line
@@ -18,7 +17,7 @@ saying_at ls k = get_or ls k (Faulty 0)
 unfoldable pub rows_of : Line → ℕ
 rows_of (Head a b) = 0
 rows_of (State q s f) = 0
-rows_of (Rule k a b q) = 1
+rows_of (Rule r) = 1
 rows_of (Faulty i) = 0
 
 -- the slices are long enough for every table
@@ -56,4 +55,4 @@ pub record Headed (L : Limits) (s : List ℕ) (y n i : ℕ) : Type 0 where
 -- what the answer tells of a text, and the work slices at a table
 pub record Answers (L : Limits) (s : List ℕ) (r : Reading) (M W : List ℕ) : Type 0 where
   pub answer : told r ≡ text_told L s
-  pub fronts : {y n k : ℕ} → r ≡ Read y n k → Fronts L.width (said_by s) M W n k
+  pub fronts : {x : Sizes} → r ≡ Ok x → Fronts L.width (said_by s) M W x.states x.rules

@@ -102,12 +102,12 @@ module _ (L : Limits) (ls : List Line) (clear : Clear (fault_at L ls) (length ls
             ∙ state_at (marks_of (take (suc k) ls)) (marks_of (drop (suc k + 1) ls)) q s f (sym d.1) (final_small b) in
             sym p ∙ ap (state_line_of ms) i
             ∙ sym (body_state L.width ms xs (length ms) (length xs / L.width) k (omega (arith, d.0, d.1, w.states)))
-        go m r c e (rule {k = i} {a = a} {b = b} {q = q} u v x y) =
+        go m r c e (rule {r = t} u v x y) =
             let w = lines_whole in
             let n : k ≡ length ms + r = late u w.states c.marks c.marks_fit c.total in
-            let p : rule_line_of L.width xs r ≡ Rule i a b q =
+            let p : rule_line_of L.width xs r ≡ Rule t =
             ap (λ (z : List ℕ). rule_line_of L.width z r) (rules_parted ls (suc k) h e)
-            ∙ rule_at wide (rules_of (take (suc k) ls)) (rules_of (drop (suc k + 1) ls)) r i a b q c.rules in
+            ∙ rule_at wide (rules_of (take (suc k) ls)) (rules_of (drop (suc k + 1) ls)) r t.kind t.left t.right t.to c.rules in
             sym p ∙ sym (body_rule L.width ms xs (length ms) (length xs / L.width) r (omega (arith, w.total)))
             ∙ ap (saying_at (body_lines L.width ms xs (length ms) (length xs / L.width))) (sym n)
           where

@@ -14,8 +14,8 @@ use Rattle.lines.proofs.FieldLaws.{length_two, length_three}
 use Rattle.table.specs.Check.{table_checked, Sound}
 use Rattle.table.proofs.Exact.{passes_exactly}
 use Rattle.table.proofs.Range.{symbols_few, states_few, rules_few}
-use Rattle.rule_line.specs.Line.{letter_t, letter_s, letter_l, letter_p, letter_e, line_text}
-use Rattle.rule_line.specs.declared.Line.TheVariants.{Head, State, Rule}
+use Rattle.rule_line.specs.Line.{letter_t, letter_s, letter_l, letter_p, letter_e, rule_of, line_text}
+use Rattle.rule_line.specs.declared.Line.TheVariants.{Head, State}
 use Rattle.rule_line.proofs.LineLaws.{rule_leaf, rule_join, rule_step}
 use Rattle.rule_read.specs.Text.{said_by, marks_of, rules_of, text_told}
 use Rattle.rule_read.proofs.Said.{wide_limits}
@@ -49,7 +49,7 @@ state_size : (i s f : ℕ) → s < one_digit → f < one_digit → length (line_
 unfolding line_text
 state_size i s f hs hf = omega (arith, length_three letter_s 3 i s f refl, length_one s hs, length_one f hf)
 
-rule_size : {k a b q : ℕ} → RuleBelow two_digits k a b q → length (line_text (Rule k a b q)) ≤ rule_bytes
+rule_size : {k a b q : ℕ} → RuleBelow two_digits k a b q → length (line_text (rule_of k a b q)) ≤ rule_bytes
 unfolding line_text
 rule_size {k} {a} {b} {q} h =
     let la = decimal_two a h.left in

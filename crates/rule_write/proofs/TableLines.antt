@@ -10,9 +10,9 @@ use lib.ListN.{length, take, drop, length-append, get_or-append}
 use lib.Seq.{take-suc, take-add, take-append-le, take-append-add, get_or-append-add, get_or-append_seam, get_or_at}
 use Rattle.paper.specs.Limits.{at}
 use Rattle.lines.proofs.Places.{from}
-use Rattle.rule_line.specs.Line.{line_text}
+use Rattle.rule_line.specs.Line.{rule_of, line_text}
 use Rattle.rule_line.specs.declared.Line.{Line}
-use Rattle.rule_line.specs.declared.Line.TheVariants.{Head, State, Rule, Faulty}
+use Rattle.rule_line.specs.declared.Line.TheVariants.{Head, State, Faulty}
 use Rattle.rule_read.specs.Text.{mark_of, the_rule_of, marks_of, rules_of}
 use Rattle.rule_read.specs.Work.{saying_at}
 use Rattle.rule_read.proofs.Said.{Wide}
@@ -129,7 +129,7 @@ module _ {w : ℕ} (wide : Wide w) where
       ∙ rw (rules_rules xs j (omega arith), append-nil) (row_taken xs j (omega arith))
 
   -- the numbers of a line, in the marks or the rules of all
-  pub rule_at : (ps zs : List ℕ) (j k a b q : ℕ) → length ps ≡ j * w → rule_line_of w (ps ++ (the_rule_of (Rule k a b q) ++ zs)) j ≡ Rule k a b q
+  pub rule_at : (ps zs : List ℕ) (j k a b q : ℕ) → length ps ≡ j * w → rule_line_of w (ps ++ (the_rule_of (rule_of k a b q) ++ zs)) j ≡ rule_of k a b q
   unfolding the_rule_of
   rule_at ps zs j k a b q e =
       let xs : List ℕ = k ∷ a ∷ b ∷ q ∷ zs in

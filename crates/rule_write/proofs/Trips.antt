@@ -18,15 +18,14 @@ use Rattle.table.proofs.Exact.{passes_exactly, refused_exactly, verdict}
 use Rattle.table.proofs.Exact as table
 use Rattle.rule_read.specs.Text.{said_by, marks_of, rules_of, text_told, read_told, Reads}
 use Rattle.table.specs.Room.{NoRoom, no_room?}
-use Rattle.rule_read.specs.declared.Reading.{Reading}
-use Rattle.rule_read.specs.declared.Reading.TheVariants.{Read}
+use Rattle.std.specs.Prelude.{Ok}
+use Rattle.rule_read.specs.Text.{Reading}
 use Rattle.rule_read.proofs.Said.{Wide}
 use Rattle.rule_read.proofs.Exact.{refused_not_holds, text_holds, read_short, read_on}
 use Rattle.rule_read.proofs.Passes.{text_passes}
 use Rattle.rule_read.proofs.Unique as read
 use Rattle.rule_write.specs.Write.{table_text_of, write_told, Writes}
-use Rattle.rule_write.specs.declared.Writing.{Writing}
-use Rattle.rule_write.specs.declared.Writing.TheVariants.{Wrote}
+use Rattle.rule_write.specs.Write.{Writing}
 use Rattle.rule_write.proofs.RoundTrip.{read_write}
 use Rattle.rule_write.proofs.WriteRead.{marks_back, rules_back, write_read}
 use Rattle.rule_write.proofs.Unique.{told_unique}
@@ -63,7 +62,7 @@ pub record Back (L : Limits) (s : List ℕ) (y n r : ℕ) (M' W' : List ℕ) : T
   pub marks : take n M' ≡ marks_of (said_by s)
   pub rules : take (r * L.width) W' ≡ rules_of (said_by s)
 
-pub read_back : (L : Limits) → Wide L.width → (s M W M' W' : List ℕ) (y n r : ℕ) → Reads L s M W (Read y n r) M' W' → Back L s y n r M' W'
+pub read_back : (L : Limits) → Wide L.width → (s M W M' W' : List ℕ) (y n r : ℕ) → Reads L s M W (Ok (record { symbols = y; states = n; rules = r })) M' W' → Back L s y n r M' W'
 unfolding is_refusal
 read_back L wide s M W M' W' y n r x =
     let t = reads_told L s M W y n r x.answer in
@@ -80,8 +79,8 @@ read_back L wide s M W M' W' y n r x =
 
 -- a text that is read and then written comes back byte for byte
 pub read_then_write : (L : Limits) → Wide L.width → (s M W M' W' O O' : List ℕ) (y n r : ℕ) (a : Writing)
-    → Reads L s M W (Read y n r) M' W' → L.text ≤ length O → Writes L y (take n M') (take (r * L.width) W') O a O'
-    → (a ≡ Wrote (length s)) × (take (length s) O' ≡ s)
+    → Reads L s M W (Ok (record { symbols = y; states = n; rules = r })) M' W' → L.text ≤ length O → Writes L y (take n M') (take (r * L.width) W') O a O'
+    → (a ≡ Ok (length s)) × (take (length s) O' ≡ s)
 unfolding is_refusal
 read_then_write L wide s M W M' W' O O' y n r a x room w =
     let b = read_back L wide s M W M' W' y n r x in
@@ -91,7 +90,7 @@ read_then_write L wide s M W M' W' O O' y n r a x room w =
     writes_told L y (marks_of (said_by s)) (rules_of (said_by s)) O b.checked room ∙ rw e refl in
     let f : is_refusal (write_told L y (marks_of (said_by s)) (rules_of (said_by s)) O) ≡ false = rw t refl in
     let o : O' ≡ filled (write_told L y (marks_of (said_by s)) (rules_of (said_by s)) O) s O = rw e at v.text in
-    (told_unique a (Wrote (length s)) (v.answer ∙ t), front (write_told L y (marks_of (said_by s)) (rules_of (said_by s)) O) s O O' f o)
+    (told_unique a (Ok (length s)) (v.answer ∙ t), front (write_told L y (marks_of (said_by s)) (rules_of (said_by s)) O) s O O' f o)
 
 -- a table that was written passes its check, and its text stands at the front of the slice
 written_table : (L : Limits) (y k : ℕ) (ms xs O : List ℕ) → written k ≡ write_told L y ms xs O → table_checked L y ms xs ≡ passes
@@ -121,9 +120,9 @@ written_told L y k ms xs O p e = by_cases (dec_lt (length O) L.text)
 
 -- a table that is written and then read comes back equal
 pub write_then_read : (L : Limits) → Wide L.width → L.symbols ≤ most_number → L.states ≤ most_number
-    → (ms xs O O' M W M' W' : List ℕ) (y k : ℕ) (a : Reading) → Writes L y ms xs O (Wrote k) O' → ¬ NoRoom L M W
+    → (ms xs O O' M W M' W' : List ℕ) (y k : ℕ) (a : Reading) → Writes L y ms xs O (Ok k) O' → ¬ NoRoom L M W
     → Reads L (take k O') M W a M' W'
-    → (a ≡ Read y (length ms) (length xs / L.width)) × ((take (length ms) M' ≡ ms) × (take (length xs) W' ≡ xs))
+    → (a ≡ Ok (record { symbols = y; states = length ms; rules = length xs / L.width })) × ((take (length ms) M' ≡ ms) × (take (length xs) W' ≡ xs))
 unfolding is_refusal
 write_then_read L wide hy hn ms xs O O' M W M' W' y k a w room x =
     let p = written_table L y k ms xs O w.answer in
@@ -137,6 +136,6 @@ write_then_read L wide hy hn ms xs O O' M W M' W' y k a w room x =
     let g : is_refusal (read_told L text M W) ≡ false = rw u refl in
     let m : M' ≡ filled (read_told L text M W) ms M = rw (marks_back L wide hy hn y ms xs p) at z.marks in
     let r : W' ≡ filled (read_told L text M W) xs W = rw (rules_back L wide hy hn y ms xs p) at z.rules in (
-      read.told_unique a (Read y (length ms) (length xs / L.width)) (z.answer ∙ u),
+      read.told_unique a (Ok (record { symbols = y; states = length ms; rules = length xs / L.width })) (z.answer ∙ u),
       (front (read_told L text M W) ms M M' g m, front (read_told L text M W) xs W W' g r),
     )

@@ -16,9 +16,11 @@ use Rattle.put.proofs.PutLaws.{put_none, fit_then, wrote_length}
 use Rattle.table.specs.Check.{table_checked}
 use Rattle.table.proofs.Exact.{passes_exactly}
 use Rattle.rule_line.specs.Line.{line_text}
-use Rattle.rule_line.specs.declared.Line.TheVariants.{Head}
+use Rattle.rule_line.specs.declared.Line.TheVariants.{Head, Rule}
 use Rattle.rule_write.specs.Write.{state_line_of, rule_line_of, states_text_of, rules_text_of, table_text_of, write_told, Writes}
-use Rattle.rule_write.specs.declared.Writing.TheVariants.{Wrote as WroteBytes, Refused}
+use Rattle.std.specs.Prelude.{Ok, Err}
+use Rattle.paper.specs.declared.RuleRow.{RuleRow}
+use Rattle.table.specs.Rules.{Row}
 
 -- bs stand from at on, up to e, if they fit; the slice keeps its length
 pub record Laid (o : List ℕ) (at : ℕ) (bs : List ℕ) (e : ℕ) (o' : List ℕ) : Type 0 where
@@ -36,6 +38,10 @@ pub states_more : (ms : List ℕ) (i : ℕ) {o o₁ o₂ : List ℕ} {at e r : �
     → Laid o at (states_text_of ms i) e o₁ → Wrote o₁ e (line_text (state_line_of ms i)) r o₂ → Laid o at (states_text_of ms (i + 1)) r o₂
 unfolding states_text_of
 states_more ms i l w = rw (add-one i) (laid_more l w)
+
+-- a row that stands there is said
+pub row_line : {width i : ℕ} {xs : List ℕ} {r : RuleRow} → Row width xs i r.kind r.left r.right r.to → rule_line_of width xs i ≡ Rule r
+row_line row = rw (row.kind, row.left, row.right, row.target)
 
 pub rules_more : (width : ℕ) (xs : List ℕ) (i : ℕ) {o o₁ o₂ : List ℕ} {at e r : ℕ}
     → Laid o at (rules_text_of width xs i) e o₁ → Wrote o₁ e (line_text (rule_line_of width xs i)) r o₂ → Laid o at (rules_text_of width xs (i + 1)) r o₂
@@ -56,12 +62,12 @@ module _ (L : Limits) (symbols : ℕ) (ms xs o : List ℕ) where
   text_laid w f g = fit_then w.fits (fit_then f g)
 
   pub writes_fault : {n s p : ℕ} → table_checked L symbols ms xs ≡ refused n s p
-      → Writes L symbols ms xs o (Refused (record { number = n; side = s; place = p })) o
+      → Writes L symbols ms xs o (Err (record { number = n; side = s; place = p })) o
   unfolding write_told after filled is_refusal
   writes_fault e = record { answer = rw e; text = rw e }
 
   pub writes_short : table_checked L symbols ms xs ≡ passes → length o < L.text
-      → Writes L symbols ms xs o (Refused (record { number = 1; side = 0; place = 0 })) o
+      → Writes L symbols ms xs o (Err (record { number = 1; side = 0; place = 0 })) o
   unfolding write_told after filled is_refusal
   writes_short e h =
       let t : write_told L symbols ms xs o ≡ refused 1 0 0 = rw e (if_pos (dec_lt (length o) L.text) h _ _) in
@@ -70,7 +76,7 @@ module _ (L : Limits) (symbols : ℕ) (ms xs o : List ℕ) where
   -- the text fits, and is written
   pub writes_all : {r : ℕ} {o' : List ℕ} → table_checked L symbols ms xs ≡ passes → L.text ≤ length o
       → length (table_text_of L.width symbols ms xs) ≤ L.text → Fit o 0 (table_text_of L.width symbols ms xs) r o'
-      → Writes L symbols ms xs o (WroteBytes r) o'
+      → Writes L symbols ms xs o (Ok r) o'
   unfolding write_told after filled is_refusal
   writes_all {r} {o'} e h b f =
       let bs = table_text_of L.width symbols ms xs in

@@ -1,23 +1,22 @@
 -- How a table is written as a rule text, and what the writer tells.
-use Rattle.std.specs.Prelude.{ℕ, zero, suc, ◌+◌, ◌*◌, ◌/◌, ◌<◌, ◌≡◌, List, [], ◌++◌, length}
+use Rattle.std.specs.Prelude.{ℕ, zero, suc, ◌+◌, ◌*◌, ◌/◌, ◌<◌, ◌≡◌, List, [], ◌++◌, length, Result, Ok, Err}
 use Rattle.std.proofs.Math.Logic.{ite}
 use Rattle.std.proofs.Math.Decide.{dec_lt}
 use Rattle.paper.specs.Limits.{Limits, at}
 use Rattle.paper.specs.Told.{Told, refused, written, refusal, after, filled}
 use Rattle.table.specs.Rules.{sort_of, final_of}
 use Rattle.table.specs.Check.{table_checked, TableRefused, Sound}
-use Rattle.rule_line.specs.Line.{line_text}
+use Rattle.paper.specs.declared.Refusal.{Refusal}
+use Rattle.rule_line.specs.Line.{rule_of, line_text}
 use Rattle.rule_line.specs.declared.Line.{Line}
-use Rattle.rule_line.specs.declared.Line.TheVariants.{Head, State, Rule}
-use Rattle.rule_write.specs.declared.Writing.{Writing}
-use Rattle.rule_write.specs.declared.Writing.TheVariants.{Wrote, Refused}
+use Rattle.rule_line.specs.declared.Line.TheVariants.{Head, State}
 
 -- what the line of state i and the line of rule i say
 abbrev pub state_line_of : List ℕ → ℕ → Line
 state_line_of ms i = State i (sort_of (at ms i)) (final_of (at ms i))
 
 abbrev pub rule_line_of : ℕ → List ℕ → ℕ → Line
-rule_line_of w xs i = Rule (at xs (i * w)) (at xs (i * w + 1)) (at xs (i * w + 2)) (at xs (i * w + 3))
+rule_line_of w xs i = rule_of (at xs (i * w)) (at xs (i * w + 1)) (at xs (i * w + 2)) (at xs (i * w + 3))
 
 -- the lines of the first n states, and of the first n rules
 unfoldable pub states_text_of : List ℕ → ℕ → List ℕ
@@ -51,10 +50,14 @@ pub data WriteRefused (L : Limits) (symbols : ℕ) (ms xs O : List ℕ) : ℕ �
   bad_table : {n s p : ℕ} → TableRefused L symbols ms xs n s p → WriteRefused L symbols ms xs O n s p
   short_slice : Sound L symbols ms xs → NoRoom L O → WriteRefused L symbols ms xs O 1 0 0
 
+-- what writing a rule text answers: so many bytes, or a refusal
+abbrev pub Writing : Type 0
+Writing = Result ℕ Refusal
+
 -- what the writer's answer tells
 abbrev pub told : Writing → Told
-told (Wrote n) = written n
-told (Refused x) = refusal x
+told (Ok n) = written n
+told (Err x) = refusal x
 
 -- what the writer answers, and what it leaves in the slice
 pub record Writes (L : Limits) (symbols : ℕ) (ms xs O : List ℕ) (r : Writing) (O' : List ℕ) : Type 0 where

@@ -1,12 +1,12 @@
 // What the programs of cases share: reading a case's file and its numbers, writing what it is told, and parts of slices.
 #![tactic(auto)]
 
-ghost use Rattle.std.specs.Prelude.{◌≡◌, cond, ◌-◌, ◌≤◌, ◌<◌, eqb, length, take, drop, IfOk, OnErr};
+ghost use Rattle.std.specs.Prelude.{◌≡◌, cond, ◌-◌, ◌≤◌, ◌<◌, eqb, length, slice_index_or, take, drop, IfOk, OnErr};
 
-use lines::Number;
 use paper::{Checked, Refusal};
+use std::io;
 use std::rt::Files;
-use std::{fs, io};
+use table::Sizes;
 
 // No case's file has more bytes than this, and so none has more numbers.
 pub const CASE_BYTES: usize = 16384;
@@ -36,10 +36,17 @@ pub fn refusal(rt: &impl Print, f: Refusal) -> io::Result<()> {
     field(rt, f.place)
 }
 
+// How many symbols, states and rules a table has.
+pub fn sizes(rt: &impl Print, t: Sizes) -> io::Result<()> {
+    field(rt, t.symbols as usize)?;
+    field(rt, t.states)?;
+    field(rt, t.rules)
+}
+
 pub fn checked(rt: &impl Print, c: Checked) -> io::Result<()> {
     match c {
-        Checked::Passes => text(rt, b"\tpasses"),
-        Checked::Refused(f) => refusal(rt, f),
+        Ok(()) => text(rt, b"\tpasses"),
+        Err(f) => refusal(rt, f),
     }
 }
 
@@ -55,10 +62,7 @@ fn read_file(rt: &impl Files, name: &[u8], bytes: &mut [u8]) -> usize
     let Ok(path) = str::from_utf8(name) else {
         return 0;
     };
-    match fs::open(rt, path) {
-        Ok(mut file) => intake::read_full(&mut file, bytes).count,
-        Err(_) => 0,
-    }
+    intake::read_file(rt, path, bytes)
 }
 
 // Writes the name of a case, and reads its file into the slice: how many bytes, none where it can't be opened. Where the name can't be
@@ -80,10 +84,14 @@ pub fn less(n: usize, case: usize, short: usize) -> usize
     if case != short {
         return n;
     }
-    if n == 0 {
-        return 0;
-    }
-    n - 1
+    n.saturating_sub(1)
+}
+
+// Number a of the slice, or 0 behind its end.
+pub fn at(all: &[u16], a: usize) -> u16
+    ensures { result ≡ slice_index_or all.now a 0 }
+{
+    if a < all.len() { all[a] } else { 0 }
 }
 
 // The part of a slice from a on, at most n long, as far as the slice goes.
@@ -151,8 +159,7 @@ fn step(bytes: &[u8], at: usize, out: &mut [u16], count: usize) -> Cursor
     ensures { (at < result.at) × (result.count ≤ length out.new)
         × (length out.new ≡ length out.old) }
 {
-    let found = lines::read_number(bytes, at);
-    let Number::Value(a, end) = found else {
+    let Ok((a, end)) = lines::read_number(bytes, at) else {
         return Cursor { at: at + 1, count };
     };
     if end <= at {
@@ -171,6 +178,7 @@ pub fn numbers(bytes: &[u8], out: &mut [u16]) -> usize
 {
     let mut at = 0;
     let mut count = 0;
+    // Kept: a while, since a number has as many bytes as it likes.
     while at < bytes.len() {
         let s = step(bytes, at, out, count);
         at = s.at;

@@ -8,7 +8,7 @@ use native.Mathlib.Numerals.{add-one}
 use Rattle.paper.specs.Limits.{Limits, leaf_kind, join_kind, eps_kind}
 use Rattle.tree.specs.Tree.{leaf_mark}
 use Rattle.pairs.specs.declared.Pair.{Pair}
-use Rattle.pairs.specs.declared.RuleRow.{RuleRow}
+use Rattle.paper.specs.declared.RuleRow.{RuleRow}
 use Rattle.pairs.specs.declared.Sizes.{Sizes}
 use Rattle.pairs.specs.State.{code, eps_mark}
 use Rattle.pairs.specs.Work.{IsRow, Added, TakenAt}

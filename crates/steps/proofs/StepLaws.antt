@@ -14,7 +14,7 @@ use Rattle.table.proofs.Rows.{row_whole, row_below}
 use Rattle.product.proofs.Include.{join_to_unique, leaf_to_unique}
 use Rattle.table.proofs.Range.{symbols_few, third_zero, to_below, symbol_below, from_below, right_below}
 use Rattle.pairs.specs.declared.Pair.{Pair}
-use Rattle.pairs.specs.declared.RuleRow.{RuleRow}
+use Rattle.paper.specs.declared.RuleRow.{RuleRow}
 use Rattle.pairs.specs.declared.Sizes.{Sizes}
 use Rattle.pairs.specs.Memory.{Memory, memory}
 use Rattle.pairs.specs.State.{code, eps_mark, Grew}

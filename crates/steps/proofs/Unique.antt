@@ -7,7 +7,7 @@ use native.Mathlib.Omega.{arith}
 use lib.ListN.{length}
 use Rattle.paper.specs.Limits.{Limits}
 use Rattle.pairs.specs.declared.Pair.{Pair}
-use Rattle.pairs.specs.declared.RuleRow.{RuleRow}
+use Rattle.paper.specs.declared.RuleRow.{RuleRow}
 use Rattle.pairs.specs.declared.Sizes.{Sizes}
 use Rattle.pairs.specs.Work.{Added}
 use Rattle.pairs.proofs.Unique.{place_unique, added_unique}

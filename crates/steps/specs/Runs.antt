@@ -4,7 +4,7 @@ use Rattle.std.specs.Prelude.{ℕ, zero, suc, ◌+◌, ◌*◌, ◌/◌, ◌≤�
 use Rattle.paper.specs.Limits.{Limits, at, leaf_kind, join_kind, eps_kind}
 use Rattle.tree.specs.Tree.{leaf_mark}
 use Rattle.pairs.specs.declared.Pair.{Pair}
-use Rattle.pairs.specs.declared.RuleRow.{RuleRow}
+use Rattle.paper.specs.declared.RuleRow.{RuleRow}
 use Rattle.pairs.specs.declared.Sizes.{Sizes}
 use Rattle.pairs.specs.State.{code, eps_mark}
 use Rattle.pairs.specs.Work.{PlaceRead, Added, TakenAt}

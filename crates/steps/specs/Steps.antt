@@ -5,7 +5,7 @@ use Rattle.table.specs.Rules.{Rule, join_rule}
 use Rattle.table.specs.Check.{Sound}
 use Rattle.product.specs.Moves.{LeafTo, JoinTo}
 use Rattle.pairs.specs.declared.Pair.{Pair}
-use Rattle.pairs.specs.declared.RuleRow.{RuleRow}
+use Rattle.paper.specs.declared.RuleRow.{RuleRow}
 use Rattle.pairs.specs.declared.Sizes.{Sizes}
 use Rattle.pairs.specs.Memory.{Memory, Marked, Taken}
 use Rattle.pairs.specs.State.{code, Grew}

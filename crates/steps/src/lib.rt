@@ -5,187 +5,152 @@
 
 ghost use Rattle.std.specs.Prelude.{◌/◌, length};
 ghost use Rattle.paper.specs.Limits.{limits};
-ghost use Rattle.pairs.specs.Work.{RowIn};
+ghost use Rattle.pairs.specs.Work.{RowIn, Kept};
 ghost use Rattle.steps.specs.Runs.{row_at, LeafStep, Leaves, EpsStep, EpsSteps, Closing, JoinStep, BothSteps, RowSteps, Joins};
 
-use pairs::{Pair, Receiver, RuleRow, Sender, Sizes};
+use pairs::{Pair, Queue, Receiver, Sender};
+use paper::RuleRow;
 
 // Finds the pair of the sender's rule g, if it is a leaf rule.
-fn leaf_row(s: &[u16], r: &[u16], z: Sizes, work: &mut [u16], g: usize, k: usize) -> usize
+fn leaf_row(s: &[u16], r: &[u16], queue: &mut Queue, g: usize)
     requires { RowIn limits.width s.now g }
-    ensures { LeafStep limits z r.now (row_at limits s.now g)
-        work.old k work.new result }
+    ensures step { LeafStep limits queue.old.sizes r.now (row_at limits s.now g)
+        queue.old.work.now queue.old.count queue.new.work.now queue.new.count }
+    ensures kept { Kept queue.old queue.new }
 {
     let rule = pairs::rule_row(s, g);
     if rule.kind != paper::LEAF_RULE {
-        return k;
+        return;
     }
-    let q = moves::leaf_state(r, z.receivers, rule.left);
-    let c = pairs::number(Sender(rule.to), q, z.receivers);
-    pairs::add(z, work, k, c, rule.left as usize, paper::LEAF as usize)
+    let n = queue.sizes.receivers;
+    let q = moves::leaf_state(r, n, rule.left);
+    let c = pairs::number(Sender(rule.to), q, n);
+    queue.add(c, rule.left as usize, paper::LEAF as usize);
 }
 
-// Finds the pairs of the sender's leaf rules, and tells how many there are.
-pub fn leaves(s: &[u16], r: &[u16], z: Sizes, work: &mut [u16]) -> usize
-    ensures { Leaves limits z s.now r.now work.old 0 work.new result }
+// Finds the pairs of the sender's leaf rules.
+// Kept: three loops down the sender's rules, here, in eps_rows and in join_all; one over a closure would say each step's contract twice.
+pub fn leaves(s: &[u16], r: &[u16], queue: &mut Queue)
+    ensures steps { Leaves limits queue.old.sizes s.now r.now
+        queue.old.work.now queue.old.count queue.new.work.now queue.new.count }
+    ensures kept { Kept queue.old queue.new }
 {
-    let rows = s.len() / paper::WIDTH;
-    let mut e = 0;
-    let mut g = 0;
-    while g < rows {
-        e = leaf_row(s, r, z, work, g, e);
-        g += 1;
+    for g in 0..s.len() / paper::WIDTH {
+        leaf_row(s, r, queue, g);
     }
-    e
 }
 
 // Finds the pair that the sender's rule g gives of a pair, if it is an ε rule from its state.
-fn eps_row(s: &[u16], z: Sizes, work: &mut [u16], g: usize, pair: Pair, k: usize) -> usize
+fn eps_row(s: &[u16], queue: &mut Queue, g: usize, pair: Pair)
     requires { RowIn limits.width s.now g }
-    ensures { EpsStep z pair (row_at limits s.now g) work.old k work.new result }
+    ensures step { EpsStep queue.old.sizes pair (row_at limits s.now g)
+        queue.old.work.now queue.old.count queue.new.work.now queue.new.count }
+    ensures kept { Kept queue.old queue.new }
 {
     let rule = pairs::rule_row(s, g);
     if rule.kind != paper::EPSILON_RULE {
-        return k;
+        return;
     }
     if rule.left != pair.p.0 {
-        return k;
+        return;
     }
     let q = pair.q;
-    let a = pairs::number(Sender(rule.left), q, z.receivers);
-    let c = pairs::number(Sender(rule.to), q, z.receivers);
-    pairs::add(z, work, k, c, a, pairs::EPSILON as usize)
+    let n = queue.sizes.receivers;
+    let a = pairs::number(Sender(rule.left), q, n);
+    let c = pairs::number(Sender(rule.to), q, n);
+    queue.add(c, a, pairs::EPSILON as usize);
 }
 
 // Finds the pairs that the sender's ε rules give of a pair.
-fn eps_rows(s: &[u16], z: Sizes, work: &mut [u16], pair: Pair, k: usize) -> usize
-    ensures { EpsSteps limits z s.now pair (length s.now / limits.width)
-        work.old k work.new result }
+fn eps_rows(s: &[u16], queue: &mut Queue, pair: Pair)
+    ensures steps { EpsSteps limits queue.old.sizes s.now pair (length s.now / limits.width)
+        queue.old.work.now queue.old.count queue.new.work.now queue.new.count }
+    ensures kept { Kept queue.old queue.new }
 {
-    let rows = s.len() / paper::WIDTH;
-    let mut e = k;
-    let mut g = 0;
-    while g < rows {
-        e = eps_row(s, z, work, g, pair, e);
-        g += 1;
+    for g in 0..s.len() / paper::WIDTH {
+        eps_row(s, queue, g, pair);
     }
-    e
 }
 
-// Uses the sender's ε rules on each pair of the queue from the place `from` on, also on those that come by it. Tells how many pairs the
-// queue then has.
-pub fn close_eps(s: &[u16], z: Sizes, work: &mut [u16], from: usize, k: usize) -> usize
-    ensures { Closing limits z s.now from work.old k work.new result }
+// Uses the sender's ε rules on each pair of the queue from the place `from` on, also on those that come by it.
+pub fn close_eps(s: &[u16], queue: &mut Queue, from: usize)
+    ensures steps { Closing limits queue.old.sizes s.now from
+        queue.old.work.now queue.old.count queue.new.work.now queue.new.count }
+    ensures kept { Kept queue.old queue.new }
 {
-    let mut e = k;
-    let mut j = from;
-    while j < z.pairs {
-        if e <= j {
-            return e;
+    for j in from..queue.sizes.pairs {
+        if queue.count <= j {
+            return;
         }
-        let pair = pairs::pair_at(z, work, j);
-        e = eps_rows(s, z, work, pair, e);
-        j += 1;
+        let pair = queue.pair_at(j);
+        eps_rows(s, queue, pair);
     }
-    e
 }
 
 // Joins two pairs by a rule of the sender, if both are taken: its left state's with x and its right state's with y.
-fn join_one(
-    r: &[u16],
-    z: Sizes,
-    work: &mut [u16],
-    rule: RuleRow,
-    x: Receiver,
-    y: Receiver,
-    k: usize,
-) -> usize
-    ensures { JoinStep limits z r.now rule x.0 y.0
-        work.old k work.new result }
+fn join_one(r: &[u16], queue: &mut Queue, rule: RuleRow, x: Receiver, y: Receiver)
+    ensures step { JoinStep limits queue.old.sizes r.now rule x.0 y.0
+        queue.old.work.now queue.old.count queue.new.work.now queue.new.count }
+    ensures kept { Kept queue.old queue.new }
 {
+    let z = queue.sizes;
     let a = pairs::number(Sender(rule.left), x, z.receivers);
-    if !pairs::is_taken(z, work, a) {
-        return k;
+    if !queue.is_taken(a) {
+        return;
     }
     let b = pairs::number(Sender(rule.right), y, z.receivers);
-    if !pairs::is_taken(z, work, b) {
-        return k;
+    if !queue.is_taken(b) {
+        return;
     }
-    let q = moves::step(r, z, work, x, y);
+    let q = moves::step(r, z, queue.slice(), x, y);
     let c = pairs::number(Sender(rule.to), q, z.receivers);
-    pairs::add(z, work, k, c, a, b)
+    queue.add(c, a, b);
 }
 
 // Joins a pair with the taken pair of y that fits, as the left part of the rule and as its right part.
-fn join_both(
-    r: &[u16],
-    z: Sizes,
-    work: &mut [u16],
-    rule: RuleRow,
-    pair: Pair,
-    y: Receiver,
-    k: usize,
-) -> usize
-    ensures { BothSteps limits z r.now rule pair y.0 work.old k work.new result }
+fn join_both(r: &[u16], queue: &mut Queue, rule: RuleRow, pair: Pair, y: Receiver)
+    ensures steps { BothSteps limits queue.old.sizes r.now rule pair y.0
+        queue.old.work.now queue.old.count queue.new.work.now queue.new.count }
+    ensures kept { Kept queue.old queue.new }
 {
     let q = pair.q;
-    if rule.left != pair.p.0 {
-        if rule.right != pair.p.0 {
-            return k;
-        }
-        return join_one(r, z, work, rule, y, q, k);
+    if rule.left == pair.p.0 {
+        join_one(r, queue, rule, q, y);
     }
-    let e = join_one(r, z, work, rule, q, y, k);
-    if rule.right != pair.p.0 {
-        return e;
+    if rule.right == pair.p.0 {
+        join_one(r, queue, rule, y, q);
     }
-    join_one(r, z, work, rule, y, q, e)
 }
 
 // Joins a pair with the taken pairs by the sender's rule g, if it is a join rule that names the pair's state.
-fn join_row(
-    s: &[u16],
-    r: &[u16],
-    z: Sizes,
-    work: &mut [u16],
-    g: usize,
-    pair: Pair,
-    k: usize,
-) -> usize
+fn join_row(s: &[u16], r: &[u16], queue: &mut Queue, g: usize, pair: Pair)
     requires { RowIn limits.width s.now g }
-    ensures { RowSteps limits z r.now pair (row_at limits s.now g)
-        work.old k work.new result }
+    ensures steps { RowSteps limits queue.old.sizes r.now pair (row_at limits s.now g)
+        queue.old.work.now queue.old.count queue.new.work.now queue.new.count }
+    ensures kept { Kept queue.old queue.new }
 {
     let rule = pairs::rule_row(s, g);
     if rule.kind != paper::JOIN_RULE {
-        return k;
+        return;
     }
     if rule.left != pair.p.0 {
         if rule.right != pair.p.0 {
-            return k;
+            return;
         }
     }
-    let states = z.receivers as usize + 1;
-    let mut e = k;
-    let mut y = 0;
-    while y < states {
-        e = join_both(r, z, work, rule, pair, Receiver(y as u16), e);
-        y += 1;
+    let states = queue.sizes.receivers as usize + 1;
+    for y in 0..states {
+        join_both(r, queue, rule, pair, Receiver(y as u16));
     }
-    e
 }
 
-// Joins a pair with the taken pairs by all join rules of the sender, and tells how many pairs the queue then has.
-pub fn join_all(s: &[u16], r: &[u16], z: Sizes, work: &mut [u16], pair: Pair, k: usize) -> usize
-    ensures { Joins limits z s.now r.now pair
-        work.old k work.new result }
+// Joins a pair with the taken pairs by all join rules of the sender.
+pub fn join_all(s: &[u16], r: &[u16], queue: &mut Queue, pair: Pair)
+    ensures steps { Joins limits queue.old.sizes s.now r.now pair
+        queue.old.work.now queue.old.count queue.new.work.now queue.new.count }
+    ensures kept { Kept queue.old queue.new }
 {
-    let rows = s.len() / paper::WIDTH;
-    let mut e = k;
-    let mut g = 0;
-    while g < rows {
-        e = join_row(s, r, z, work, g, pair, e);
-        g += 1;
+    for g in 0..s.len() / paper::WIDTH {
+        join_row(s, r, queue, g, pair);
     }
-    e
 }

@@ -3,3 +3,4 @@ pub mod RowTest
 pub mod Check
 pub mod Room
 pub mod Links
+pub mod Told

@@ -1,6 +1,7 @@
 -- Rules, the states that a tree has under a set of rules, and acceptance: the published evaluation of stepwise tree automata. A set of
 -- rules is any predicate on rules; a table's rules are those whose numbers stand in one of its rows. Sorts play no part in this.
-use Rattle.std.specs.Prelude.{ℕ, ◌+◌, ◌*◌, ◌/◌, ◌%◌, ◌≤◌, ◌≡◌, List, length}
+use Rattle.std.specs.Prelude.{ℕ, ◌+◌, ◌*◌, ◌/◌, ◌%◌, ◌≤◌, ◌≡◌, List, length, Option, Some, None}
+use Rattle.paper.specs.declared.RuleRow.{RuleRow}
 use Rattle.paper.specs.Limits.{at, leaf_kind, join_kind, eps_kind}
 use Rattle.tree.specs.Tree.{Tree, leaf, join}
 
@@ -16,6 +17,11 @@ pub record Row (w : ℕ) (xs : List ℕ) (i k a b q : ℕ) : Type 0 where
   pub left : at xs (i * w + 1) ≡ a
   pub right : at xs (i * w + 2) ≡ b
   pub target : at xs (i * w + 3) ≡ q
+
+-- the numbers of row i, if it is whole inside the list
+abbrev pub RowAt : ℕ → List ℕ → ℕ → Option RuleRow → Type 0
+RowAt w xs i None = length xs / w ≤ i
+RowAt w xs i (Some r) = Row w xs i r.kind r.left r.right r.to
 
 -- row i is this rule
 abbrev pub RowRule : ℕ → List ℕ → ℕ → Rule → Type 0

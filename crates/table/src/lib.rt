@@ -5,13 +5,14 @@
 ghost use Rattle.std.specs.Prelude.{◌≡◌, ◌+◌, ◌*◌, ◌/◌, ◌<◌, ◌≤◌, length};
 ghost use Rattle.paper.specs.Limits.{limits, at};
 ghost use Rattle.paper.specs.Told.{Tells, passes, check_told};
-ghost use Rattle.paper.specs.First.{Clear, first};
-ghost use Rattle.table.specs.Rules.{Row};
+ghost use Rattle.paper.specs.Faults.{number_if};
+ghost use Rattle.paper.specs.First.{first, FindsWrong};
+ghost use Rattle.table.specs.Rules.{Row, RowAt};
 ghost use Rattle.table.specs.Check.{TooLarge, BadSort, BadMark, Misshapen, OutOfRange, HasRow};
-ghost use Rattle.table.specs.Check.{mark_fault, rule_fault_of, table_checked};
+ghost use Rattle.table.specs.Check.{rule_fault_of, table_checked};
 ghost use Rattle.table.specs.Links.{lists, the_list_of, Linked};
 
-use paper::{Checked, EPSILON_RULE, JOIN_RULE, LEAF_RULE, Refusal};
+use paper::{Checked, EPSILON_RULE, Fault, JOIN_RULE, LEAF_RULE, Refusal, RuleRow};
 
 // The sorts of a state and the values of final go up to these.
 const MOST_SORT: u16 = 3;
@@ -21,17 +22,15 @@ const MOST_FINAL: u16 = 1;
 // So many lists of rules the check keeps: the fronts stand first in the links, then a link for each rule.
 const LISTS: usize = 64;
 
+// Kept: lists in one array of numbers, as nothing is allocated; 0 ends a list, as a number of a rule counts from 1.
 const LINKS: usize = LISTS + paper::RULES;
 
-// A refusal at a place.
-fn refuse(number: u16, place: usize) -> Checked
-    ensures { result ≡ Checked.Refused (record { number = number; side = 0; place = place }) }
-{
-    Checked::Refused(Refusal {
-        number,
-        side: 0,
-        place,
-    })
+// How many symbols, states and rules a table has.
+#[derive(Clone, Copy, PartialEq, Eq)]
+pub struct Sizes {
+    pub symbols: u16,
+    pub states: usize,
+    pub rules: usize,
 }
 
 // Are the symbols outside their limits, or the states or rules too many?
@@ -63,20 +62,16 @@ pub fn bad_sort(sort: u16, accepting: u16) -> bool
     MOST_FINAL < accepting
 }
 
-// The first state whose mark is out of range, or the number of states.
-fn first_bad_mark(marks: &[u16]) -> usize
-    ensures clear { Clear (mark_fault marks.now) result }
-    ensures bad_mark { result < length marks.now → BadMark (at marks.now result) }
+// The first state whose mark is out of range, if there is one.
+fn first_bad_mark(marks: &[u16]) -> Option<usize>
+    ensures { FindsWrong (λ i. BadMark (at marks.now i)) (length marks.now) result }
 {
-    let mut i = 0;
-    while i < marks.len() {
-        let m = marks[i];
-        if bad_sort(m / 2, m % 2) {
-            return i;
+    for i in 0..marks.len() {
+        if bad_sort(marks[i] / 2, marks[i] % 2) {
+            return Some(i);
         }
-        i += 1;
     }
-    i
+    None
 }
 
 // Is the kind none of the three, or a number that must be 0 another one?
@@ -93,9 +88,15 @@ fn misshapen(kind: u16, right: u16) -> bool
 }
 
 // Does a rule name a symbol or a state that is not there?
-pub fn out_of_range(symbols: u16, states: usize, kind: u16, left: u16, right: u16, to: u16) -> bool
-    ensures { Tells result (OutOfRange symbols states kind left right to) }
+pub fn out_of_range(symbols: u16, states: usize, rule: RuleRow) -> bool
+    ensures { Tells result (OutOfRange symbols states rule.kind rule.left rule.right rule.to) }
 {
+    let RuleRow {
+        kind,
+        left,
+        right,
+        to,
+    } = rule;
     if states <= to as usize {
         return true;
     }
@@ -111,38 +112,37 @@ pub fn out_of_range(symbols: u16, states: usize, kind: u16, left: u16, right: u1
     false
 }
 
-// Has row i these numbers?
-fn is_row(rules: &[u16], i: usize, kind: u16, left: u16, right: u16, to: u16) -> bool
-    requires { i * limits.width + limits.width ≤ length rules.now }
-    ensures { Tells result (Row limits.width rules.now i kind left right to) }
+// The numbers of rule i, if it stands whole in the rules.
+pub fn row_at(rules: &[u16], i: usize) -> Option<RuleRow>
+    ensures { RowAt limits.width rules.now i result }
 {
+    if rules.len() / paper::WIDTH <= i {
+        return None;
+    }
     let row = i * paper::WIDTH;
-    if rules[row] != kind {
-        return false;
-    }
-    if rules[row + 1] != left {
-        return false;
-    }
-    if rules[row + 2] != right {
-        return false;
-    }
-    rules[row + 3] == to
+    Some(RuleRow {
+        kind: rules[row],
+        left: rules[row + 1],
+        right: rules[row + 2],
+        to: rules[row + 3],
+    })
 }
 
-// Has one of the first n rows these numbers? A row that is not whole inside the slice doesn't count.
-pub fn has_row(rules: &[u16], n: usize, kind: u16, left: u16, right: u16, to: u16) -> bool
-    ensures { Tells result (HasRow limits.width rules.now n kind left right to) }
+// Has row i these numbers? A row that is not whole inside the slice has none.
+fn is_row(rules: &[u16], i: usize, rule: RuleRow) -> bool
+    ensures { Tells result (Row limits.width rules.now i rule.kind rule.left rule.right rule.to) }
 {
-    let rows = rules.len() / paper::WIDTH;
-    let mut i = 0;
-    while i < n {
-        if rows <= i {
-            return false;
-        }
-        if is_row(rules, i, kind, left, right, to) {
+    row_at(rules, i) == Some(rule)
+}
+
+// Has one of the first n rows these numbers?
+pub fn has_row(rules: &[u16], n: usize, rule: RuleRow) -> bool
+    ensures { Tells result (HasRow limits.width rules.now n rule.kind rule.left rule.right rule.to) }
+{
+    for i in 0..n.min(rules.len() / paper::WIDTH) {
+        if is_row(rules, i, rule) {
             return true;
         }
-        i += 1;
     }
     false
 }
@@ -155,22 +155,15 @@ fn list_of(left: u16) -> usize
 }
 
 // Has one of the first n rules, which are linked, these numbers? Only the list of the left number is walked.
-fn is_repeat(
-    rules: &[u16],
-    links: &[u16],
-    n: usize,
-    kind: u16,
-    left: u16,
-    right: u16,
-    to: u16,
-) -> bool
+fn is_repeat(rules: &[u16], links: &[u16], n: usize, rule: RuleRow) -> bool
     requires { (n * limits.width ≤ length rules.now) × Linked lists limits rules.now links.now n }
-    ensures { Tells result (HasRow limits.width rules.now n kind left right to) }
+    ensures { Tells result (HasRow limits.width rules.now n rule.kind rule.left rule.right rule.to) }
 {
-    let mut next = links[list_of(left)];
+    let mut next = links[list_of(rule.left)];
+    // Kept: a while, since the next rule is the one that the list names.
     while next != 0 {
         let j = next as usize - 1;
-        if is_row(rules, j, kind, left, right, to) {
+        if is_row(rules, j, rule) {
             return true;
         }
         next = links[LISTS + j];
@@ -189,27 +182,23 @@ fn link(rules: &[u16], links: &mut [u16], i: usize)
     links[list] = (i + 1) as u16;
 }
 
-// The lowest number that is wrong with rule i, or 0. The rules before it are linked.
-fn rule_fault(symbols: u16, states: usize, rules: &[u16], links: &[u16], i: usize) -> u16
+// The first of the faults of rule i, if it has one. The rules before it are linked.
+fn rule_fault(symbols: u16, states: usize, rules: &[u16], links: &[u16], i: usize) -> Option<Fault>
     requires width_in_bounds { i * limits.width + limits.width ≤ length rules.now }
     requires linked { Linked lists limits rules.now links.now i }
-    ensures { result ≡ rule_fault_of limits symbols states rules.now i }
+    ensures { number_if result ≡ rule_fault_of limits symbols states rules.now i }
 {
-    let row = i * paper::WIDTH;
-    let kind = rules[row];
-    let left = rules[row + 1];
-    let right = rules[row + 2];
-    let to = rules[row + 3];
-    if misshapen(kind, right) {
-        return paper::SHAPE;
+    let rule = row_at(rules, i)?;
+    if misshapen(rule.kind, rule.right) {
+        return Some(Fault::Shape);
     }
-    if out_of_range(symbols, states, kind, left, right, to) {
-        return paper::RANGE;
+    if out_of_range(symbols, states, rule) {
+        return Some(Fault::Range);
     }
-    if is_repeat(rules, links, i, kind, left, right, to) {
-        return paper::REPEAT;
+    if is_repeat(rules, links, i, rule) {
+        return Some(Fault::Repeat);
     }
-    0
+    None
 }
 
 // Checks the rules in order, over so many symbols and states.
@@ -218,18 +207,14 @@ fn check_rules(symbols: u16, states: usize, rules: &[u16]) -> Checked
     ensures { check_told result ≡ first (rule_fault_of limits symbols states rules.now)
         (length rules.now / limits.width) passes }
 {
-    let rows = rules.len() / paper::WIDTH;
     let mut links = [0u16; LINKS];
-    let mut i = 0;
-    while i < rows {
-        let fault = rule_fault(symbols, states, rules, &links, i);
-        if fault != 0 {
-            return refuse(fault, i + 1);
+    for i in 0..rules.len() / paper::WIDTH {
+        if let Some(fault) = rule_fault(symbols, states, rules, &links, i) {
+            return Err(Refusal::at(fault, i + 1));
         }
         link(rules, &mut links, i);
-        i += 1;
     }
-    Checked::Passes
+    Ok(())
 }
 
 // Checks a table: its size, its slice's length, its marks in order, its rules in order.
@@ -237,14 +222,13 @@ pub fn check(symbols: u16, marks: &[u16], rules: &[u16]) -> Checked
     ensures { check_told result ≡ table_checked limits symbols marks.now rules.now }
 {
     if too_large(symbols, marks.len(), rules.len() / paper::WIDTH) {
-        return refuse(paper::SIZE, 0);
+        return Err(Refusal::at(Fault::Size, 0));
     }
     if rules.len() % paper::WIDTH != 0 {
-        return refuse(paper::SHAPE, 0);
+        return Err(Refusal::at(Fault::Shape, 0));
     }
-    let state = first_bad_mark(marks);
-    if state < marks.len() {
-        return refuse(paper::RANGE, state + 1);
+    if let Some(state) = first_bad_mark(marks) {
+        return Err(Refusal::at(Fault::Range, state + 1));
     }
     check_rules(symbols, marks.len(), rules)
 }

@@ -7,18 +7,7 @@ ghost use Rattle.paper.specs.Limits.{limits};
 ghost use Rattle.paper.specs.Told.{Tells, check_told};
 ghost use Rattle.tree.specs.Nodes.{BadNode, tree_checked};
 
-use paper::{Checked, Refusal};
-
-// Refusal 12 at a place.
-fn refuse(place: usize) -> Checked
-    ensures { result ≡ Checked.Refused (record { number = 12; side = 0; place = place }) }
-{
-    Checked::Refused(Refusal {
-        number: paper::TREE,
-        side: 0,
-        place,
-    })
-}
+use paper::{Checked, Fault, Refusal};
 
 // Is node i a leaf with a symbol out of range, or a join with a child that is not earlier?
 fn is_bad(symbols: u16, nodes: &[u16], i: usize) -> bool
@@ -41,21 +30,18 @@ pub fn check(symbols: u16, nodes: &[u16]) -> Checked
     ensures { check_told result ≡ tree_checked limits symbols nodes.now }
 {
     if nodes.len() % 2 == 1 {
-        return refuse(0);
+        return Err(Refusal::at(Fault::Tree, 0));
     }
-    if nodes.len() == 0 {
-        return refuse(0);
+    if nodes.is_empty() {
+        return Err(Refusal::at(Fault::Tree, 0));
     }
     if 2 * paper::NODES < nodes.len() {
-        return refuse(0);
+        return Err(Refusal::at(Fault::Tree, 0));
     }
-    let n = nodes.len() / 2;
-    let mut i = 0;
-    while i < n {
+    for i in 0..nodes.len() / 2 {
         if is_bad(symbols, nodes, i) {
-            return refuse(i + 1);
+            return Err(Refusal::at(Fault::Tree, i + 1));
         }
-        i += 1;
     }
-    Checked::Passes
+    Ok(())
 }

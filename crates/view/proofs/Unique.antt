@@ -6,18 +6,16 @@ use mathlib.Core.Logic.{◌⊎◌}
 use mathlib.Core.List.{List}
 use denote.Ref.{Bor}
 use Rattle.paper.specs.Limits.{Limits}
-use Rattle.paper.specs.Told.{check_told}
-use Rattle.paper.specs.declared.Checked.{Checked}
+use Rattle.paper.specs.Told.{Checked, check_told}
 use Rattle.paper.proofs.ToldLaws.{check_unique}
 use Rattle.table.specs.Check.{table_checked}
 use Rattle.receiver.specs.Check.{ReceiverChecked}
 use Rattle.factorized.proofs.Exact.{check_answer_unique}
 use Rattle.accept.specs.Accept.{Judged, told as judged_told}
-use Rattle.accept.specs.declared.Answer.{Answer as Judgement}
+use Rattle.accept.specs.Accept.{Answer as Judgement}
 use Rattle.accept.proofs.JudgeLaws.{accept_unique}
-use Rattle.inclusion.specs.Inclusion.{Answered, told}
-use Rattle.inclusion.specs.declared.Answer.{Answer}
-use Rattle.inclusion.specs.declared.Answer.TheVariants.{Witness}
+use Rattle.inclusion.specs.Inclusion.{Answered, Answer, told}
+use Rattle.std.specs.Prelude.{Some, Ok}
 use Rattle.inclusion.proofs.Exact.{include_unique}
 use Rattle.view.specs.declared.View.{View}
 use Rattle.view.specs.Shown.{view_of, lent_of}
@@ -44,5 +42,5 @@ module _ (L : Limits) (t : View) where
 
 -- two answers of `include` are one, and so are the slices, unless both hand out a witness; those of `include_of` by `include_unique` itself
 pub view_include_unique : (L : Limits) (s r : View) (ws ws' ws'' : List ℕ) (a b : Answer) → Answered L (lent_of s) (lent_of r) ws ws' (told a)
-    → Answered L (lent_of s) (lent_of r) ws ws'' (told b) → ((a ≡ b) × (ws' ≡ ws'')) ⊎ (((k : ℕ) × (a ≡ Witness k)) × ((k : ℕ) × (b ≡ Witness k)))
+    → Answered L (lent_of s) (lent_of r) ws ws'' (told b) → ((a ≡ b) × (ws' ≡ ws'')) ⊎ (((k : ℕ) × (a ≡ Ok (Some k))) × ((k : ℕ) × (b ≡ Ok (Some k))))
 view_include_unique L s r = include_unique L (lent_of s) (lent_of r)

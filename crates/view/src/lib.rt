@@ -13,7 +13,7 @@ ghost use Rattle.accept.specs.Accept.{Judged, told as judged_told};
 ghost use Rattle.inclusion.specs.Inclusion.{lent, Answered, told};
 ghost use Rattle.view.specs.Shown.{view_of, lent_of};
 
-use paper::Checked;
+use paper::{Checked, Refusal};
 
 // A table in place: how many symbols, one number a state, four numbers a rule.
 #[derive(Drop)]
@@ -43,6 +43,7 @@ pub fn check<'a, 'b>(t: View<'a, 'b>) -> Checked
 }
 
 // The same for plain slices.
+// Kept: both forms are promised, as of each function below (docs/DECISIONS.md, the forms that the scope names).
 pub fn check_of(symbols: u16, marks: &[u16], rules: &[u16]) -> Checked
     ensures { check_told result ≡ table_checked limits symbols marks.now rules.now }
 {
@@ -65,7 +66,7 @@ pub fn check_receiver_of(symbols: u16, marks: &[u16], rules: &[u16]) -> Checked
 }
 
 // Is the tree of these nodes accepted by the table? The table is checked first, then the tree.
-pub fn accept<'a, 'b, 'c>(t: View<'a, 'b>, nodes: &'c [u16]) -> accept::Answer
+pub fn accept<'a, 'b, 'c>(t: View<'a, 'b>, nodes: &'c [u16]) -> Result<bool, Refusal>
     ensures { Judged limits t.entry.symbols t.entry.marks.now t.entry.rules.now
         nodes.now (judged_told result) }
 {
@@ -73,7 +74,7 @@ pub fn accept<'a, 'b, 'c>(t: View<'a, 'b>, nodes: &'c [u16]) -> accept::Answer
 }
 
 // The same for plain slices.
-pub fn accept_of(symbols: u16, marks: &[u16], rules: &[u16], nodes: &[u16]) -> accept::Answer
+pub fn accept_of(symbols: u16, marks: &[u16], rules: &[u16], nodes: &[u16]) -> Result<bool, Refusal>
     ensures { Judged limits symbols marks.now rules.now nodes.now
         (judged_told result) }
 {
@@ -85,7 +86,7 @@ pub fn include<'a, 'b, 'c, 'd, 'w>(
     sender: View<'a, 'b>,
     receiver: View<'c, 'd>,
     witness: &'w mut [u16],
-) -> inclusion::Answer
+) -> Result<Option<usize>, Refusal>
     ensures { Answered limits (lent_of sender.entry) (lent_of receiver.entry) witness.old
         witness.new (told result) }
 {
@@ -109,7 +110,7 @@ pub fn include_of(
     receiver_marks: &[u16],
     receiver_rules: &[u16],
     witness: &mut [u16],
-) -> inclusion::Answer
+) -> Result<Option<usize>, Refusal>
     ensures { Answered limits (lent sender_symbols sender_marks.now sender_rules.now)
         (lent receiver_symbols receiver_marks.now receiver_rules.now)
         witness.old witness.new (told result) }

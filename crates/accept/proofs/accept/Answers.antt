@@ -1,21 +1,22 @@
 -- `accept::accept` meets its contract: each answer by its case of `Judged`.
-use mathlib.Core.Path.{◌∙◌, sym, ap}
-use Rattle.paper.specs.Told.{check_told}
-use Rattle.accept.specs.Accept.{bad_table, bad_tree, is_accepted, is_rejected}
-use Rattle.accept.proofs.JudgeLaws.{decidable_of}
+use mathlib.Core.Path.{sym}
+use Rattle.std.proofs.lemmas.Result.{err_from_is_err_and}
+use Rattle.accept.specs.Accept.{bad_table, bad_tree}
+use Rattle.accept.proofs.JudgeLaws.{decidable_of, judged_told}
 use Rattle.accept.proofs.accept.Goals as goal
 
-pub returns-in-Refused : goal.returns-in-Refused
-returns-in-Refused c = bad_table (sym c.check.ensures ∙ ap check_told c.in-Refused.is)
+pub returns-in_err-check : goal.returns-in_err-check
+returns-in_err-check c =
+    let e = err_from_is_err_and c.from_residual.result c.from_residual.ensures.1 in
+    rw (e.1, e.2) (bad_table (sym c.in_err-check.ensures))
 
-pub returns-in-Refused-check : goal.returns-in-Refused-check
-returns-in-Refused-check c = bad_tree (sym c.check.ensures ∙ ap check_told c.in_default.is) (sym c.check-2.ensures ∙ ap check_told c.in-Refused-check.is)
+pub returns-in_err-check-2 : goal.returns-in_err-check-2
+returns-in_err-check-2 c =
+    let e = err_from_is_err_and c.from_residual-in_err-check-2.result c.from_residual-in_err-check-2.ensures.1 in
+    rw (e.1, e.2) (bad_tree (sym c.in_ok-check.ensures) (sym c.in_err-check-2.ensures))
 
 pub accepts-requires : goal.accepts-requires
-accepts-requires c = decidable_of c.args.symbols c.args.marks.now c.args.rules.now c.args.nodes.now (sym c.check.ensures ∙ ap check_told c.in_default.is) (sym c.check-2.ensures ∙ ap check_told c.in_default-check.is)
-
-pub returns-then-accepts : goal.returns-then-accepts
-returns-then-accepts c = is_accepted (sym c.check.ensures ∙ ap check_told c.in_default.is) (sym c.check-2.ensures ∙ ap check_told c.in_default-check.is) (c.accepts.ensures.yes c.if-accepts.true)
+accepts-requires c = decidable_of c.args.symbols c.args.marks.now c.args.rules.now c.args.nodes.now (sym c.in_ok-check.ensures) (sym c.in_ok-check-2.ensures)
 
 pub returns : goal.returns
-returns c = is_rejected (sym c.check.ensures ∙ ap check_told c.in_default.is) (sym c.check-2.ensures ∙ ap check_told c.in_default-check.is) (c.accepts.ensures.no c.if-accepts.false)
+returns c = judged_told c.accepts.result (sym c.in_ok-check.ensures) (sym c.in_ok-check-2.ensures) c.accepts.ensures

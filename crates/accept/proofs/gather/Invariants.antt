@@ -1,11 +1,8 @@
 -- `accept::gather` meets its contract. The loop's invariant: what the rules before rule k give is in the set, and nothing else is new.
-use Prim.Native.Nat.{◌≤◌, ◌<◌, ◌-◌}
+use Prim.Native.Nat.{◌<◌}
 use Rattle.paper.specs.Limits.{limits}
 use Rattle.accept.specs.Work.{span, Gathered}
 use Rattle.accept.proofs.gather.Given as goal
 
 abbrev pub invariant-loop-k : goal.invariant-loop-k
-invariant-loop-k l = (l.k ≤ l.n) × Gathered span limits.width l.rules (λ j. j < l.k) l.nodes l.i l.initial.work l.work
-
-abbrev pub decreases-loop-k : goal.decreases-loop-k
-decreases-loop-k l = l.n - l.k
+invariant-loop-k l = Gathered span limits.width l.rules (λ j. j < l.k) l.nodes l.i l.initial.work l.work

@@ -4,4 +4,4 @@ use Rattle.embed.specs.Numbers.{numbers}
 use Rattle.embed.proofs.baranduk_check.Goals as goal
 
 pub returns : goal.returns
-returns c = c.of_checked.ensures ∙ ap numbers c.check.ensures
+returns c = c.from.ensures ∙ ap numbers c.check.ensures

@@ -1,5 +1,4 @@
 -- `factorized::first_left_again` meets its contract. The loop's invariant: no rule before `i` has an earlier left side, and the set has theirs.
-use Prim.Native.Nat.{◌≤◌, ◌-◌}
 use Rattle.paper.specs.Limits.{limits}
 use Rattle.paper.specs.First.{NoneWrong}
 use Rattle.receiver.specs.Receiver.{LeftSideAgain}
@@ -7,7 +6,4 @@ use Rattle.factorized.specs.Work.{Seen}
 use Rattle.factorized.proofs.first_left_again.Given as goal
 
 abbrev pub invariant-loop-i : goal.invariant-loop-i
-invariant-loop-i l = (l.i ≤ l.rows) × NoneWrong (LeftSideAgain limits l.rules) l.i × Seen limits l.rules l.i l.seen
-
-abbrev pub decreases-loop-i : goal.decreases-loop-i
-decreases-loop-i l = l.rows - l.i
+invariant-loop-i l = NoneWrong (LeftSideAgain limits l.rules) l.i × Seen limits l.rules l.i l.seen

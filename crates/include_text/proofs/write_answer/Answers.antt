@@ -5,13 +5,13 @@ use Rattle.include_text.proofs.AnswerLaws.{text_included, text_refusal, text_wit
 use Rattle.include_text.proofs.write_answer.Goals as goal
 
 pub write_nodes-requires : goal.write_nodes-requires
-write_nodes-requires c = told_enough c.args.witness.now c.in-Witness.is c.requires
+write_nodes-requires c = told_enough c.args.witness.now (rw (rw c.in-Ok-Some.is at c.in-Ok-Some.field-0-is) at c.in-Ok-Some.is) c.requires
 
-pub returns-in-Included : goal.returns-in-Included
-returns-in-Included c = fit_as (sym (text_included c.args.witness.now c.in-Included.is)) c.write_included.ensures.fits
+pub returns-in-Ok-None-clause-fit : goal.returns-in-Ok-None-clause-fit
+returns-in-Ok-None-clause-fit c = fit_as (sym (text_included c.args.witness.now (rw (rw c.in-Ok-None.is at c.in-Ok-None.field-0-is) at c.in-Ok-None.is))) c.write_included.ensures.wrote.fits
 
-pub returns-in-Refused : goal.returns-in-Refused
-returns-in-Refused c = fit_as (sym (text_refusal c.args.witness.now c.in-Refused.is)) c.write_refused.ensures.fits
+pub returns-in-Err-clause-fit : goal.returns-in-Err-clause-fit
+returns-in-Err-clause-fit c = fit_as (sym (text_refusal c.args.witness.now c.in-Err.is)) c.write_refused.ensures.wrote.fits
 
-pub returns-in-Witness : goal.returns-in-Witness
-returns-in-Witness c = fit_as (sym (text_witness c.args.witness.now c.in-Witness.is)) (fit_then c.write_witness-e.ensures.fits c.write_nodes.ensures)
+pub returns-in-Ok-Some-clause-fit : goal.returns-in-Ok-Some-clause-fit
+returns-in-Ok-Some-clause-fit c = fit_as (sym (text_witness c.args.witness.now (rw (rw c.in-Ok-Some.is at c.in-Ok-Some.field-0-is) at c.in-Ok-Some.is))) (fit_then c.write_witness.ensures.wrote.fits c.write_nodes.ensures.fit)

@@ -17,12 +17,12 @@ slice_bounds-build-count c = index_inside c.requires.0.sender c.requires.0.recei
 pub slice_bounds-build-start : goal.slice_bounds-build-start
 slice_bounds-build-start c = index_inside c.requires.0.sender c.requires.0.receiver.0 c.requires.0.receiver.1 c.requires.1 c.lay-z.ensures
 
-pub search-outcome-requires : goal.search-outcome-requires
-search-outcome-requires c = (c.args.receiver_marks.now, built_searchable c.requires.0.sender c.requires.0.receiver.0 c.requires.0.receiver.1 c.requires.1 c.lay-z.ensures c.build.ensures)
+pub search-requires : goal.search-requires
+search-requires c = (c.args.receiver_marks.now, built_searchable c.requires.0.sender c.requires.0.receiver.0 c.requires.0.receiver.1 c.requires.1 c.lay-z.ensures c.build.ensures)
 
-pub returns-in_default : goal.returns-in_default
-returns-in_default c = let s = built_searchable c.requires.0.sender c.requires.0.receiver.0 c.requires.0.receiver.1 c.requires.1 c.lay-z.ensures c.build.ensures in
-    is_included c.requires.0 (found_all (c.search-outcome.ensures.answer c.args.receiver_marks.now s) c.in_default.is) refl
+pub returns-in_err-i : goal.returns-in_err-i
+returns-in_err-i c = let s = built_searchable c.requires.0.sender c.requires.0.receiver.0 c.requires.0.receiver.1 c.requires.1 c.lay-z.ensures c.build.ensures in
+    rw c.from_residual.ensures (is_included c.requires.0 (found_all (c.search.ensures.answer c.args.receiver_marks.now s) c.in_err-i.was) refl)
 
 pub witness-requires : goal.witness-requires
 witness-requires c = let s = built_searchable c.requires.0.sender c.requires.0.receiver.0 c.requires.0.receiver.1 c.requires.1 c.lay-z.ensures c.build.ensures in
@@ -32,9 +32,9 @@ witness-requires c = let s = built_searchable c.requires.0.sender c.requires.0.r
     c.requires.0.sender
     c.requires.0.receiver.0
     c.lay-z.ensures.pairs
-    (omega (arith, s.room.long, c.search-outcome.ensures.size))
+    (omega (arith, s.room.long, c.search.ensures.size))
     (omega (arith, c.requires.0.enough, c.lay-z.ensures.pairs))
-    (search_failed c.in-Failing.i s.receiver.states (c.search-outcome.ensures.answer c.args.receiver_marks.now s) c.in-Failing.is)
+    (search_failed c.in_ok-i.i s.receiver.states (c.search.ensures.answer c.args.receiver_marks.now s) c.in_ok-i.was)
 
 pub returns : goal.returns
 returns c = let s = built_searchable c.requires.0.sender c.requires.0.receiver.0 c.requires.0.receiver.1 c.requires.1 c.lay-z.ensures c.build.ensures in
@@ -45,4 +45,4 @@ returns c = let s = built_searchable c.requires.0.sender c.requires.0.receiver.0
     c.requires.0.sender
     c.requires.0.receiver
     c.lay-z.ensures.pairs
-    (search_failed c.in-Failing.i s.receiver.states (c.search-outcome.ensures.answer c.args.receiver_marks.now s) c.in-Failing.is))
+    (search_failed c.in_ok-i.i s.receiver.states (c.search.ensures.answer c.args.receiver_marks.now s) c.in_ok-i.was))

@@ -5,28 +5,25 @@ use Rattle.joins.proofs.SearchLaws.{finds_short, finds_beyond, searched_none, se
 use Rattle.joins.proofs.target.Goals as goal
 
 pub returns-then-index-next : goal.returns-then-index-next
-returns-then-index-next c = finds_short limits.width c.args.rules.now c.args.index.now c.args.left c.args.right c.args.none c.if-index-next.true
+returns-then-index-next c = finds_short limits.width c.args.rules.now c.args.index.now c.args.left c.args.right c.if-index-next.true
 
 pub overflow_cast-index : goal.overflow_cast-index
 overflow_cast-index c = omega (arith, c.shared_slice_known-3-1.given 0)
 
 pub returns-then-index-next-2 : goal.returns-then-index-next-2
-returns-then-index-next-2 c = finds_beyond limits.width c.args.rules.now c.args.index.now c.args.left c.args.right c.args.none c.if-index-next-2.true
+returns-then-index-next-2 c = finds_beyond limits.width c.args.rules.now c.args.index.now c.args.left c.args.right c.if-index-next-2.true
 
 pub overflow_cast-index-2 : goal.overflow_cast-index-2
 overflow_cast-index-2 c = omega (arith, c.shared_slice_known-4-1.given (c.args.left + 1))
 
-pub overflow_cast-k-2 : goal.overflow_cast-k-2
-overflow_cast-k-2 c = omega (arith, c.shared_slice_known-5-1.given c.args.left)
-
 pub loop-k-init : goal.loop-k-init
-loop-k-init c = searched_none limits.width c.args.rules.now c.args.index.now c.args.left c.args.right c.args.none
+loop-k-init c = searched_none limits.width c.args.rules.now c.args.index.now c.args.left c.args.right
 
 pub offset_bounds-index-k : goal.offset_bounds-index-k
-offset_bounds-index-k c = omega (arith, c.lower-end.ensures)
+offset_bounds-index-k c = omega (arith, c.min-end.ensures)
 
 pub bounds-index-k : goal.bounds-index-k
-bounds-index-k c = omega (arith, c.lower-end.ensures)
+bounds-index-k c = omega (arith, c.min-end.ensures)
 
 pub overflow_cast-i : goal.overflow_cast-i
 overflow_cast-i c = omega (arith, c.shared_slice_known-in-loop-k-1.given c.loop-k.k)
@@ -44,16 +41,10 @@ pub bounds-rules-i : goal.bounds-rules-i
 bounds-rules-i c = omega (arith, (c.is_join.ensures.yes c.if-is_join.true).1.inside)
 
 pub returns-then-is_join : goal.returns-then-is_join
-returns-then-is_join c = searched_found limits.width c.args.rules.now c.args.index.now _ _ c.args.none c.loop-k.invariant (omega arith) (omega (arith, c.lower-end.ensures)) (c.is_join.ensures.yes c.if-is_join.true)
-
-pub overflow_add-k : goal.overflow_add-k
-overflow_add-k c = omega (arith, c.lower-end.ensures)
-
-pub loop-k-smaller : goal.loop-k-smaller
-loop-k-smaller c = omega (arith, c.lower-end.ensures)
+returns-then-is_join c = searched_found limits.width c.args.rules.now c.args.index.now _ _ c.loop-k.invariant (omega arith) (omega (arith, c.min-end.ensures)) (c.is_join.ensures.yes c.if-is_join.true)
 
 pub loop-k-preserved : goal.loop-k-preserved
-loop-k-preserved c = searched_more limits.width c.args.rules.now c.args.index.now _ _ c.args.none c.loop-k.invariant (c.is_join.ensures.no c.if-is_join.false)
+loop-k-preserved c = searched_more limits.width c.args.rules.now c.args.index.now _ _ c.loop-k.invariant (c.is_join.ensures.no c.if-is_join.false)
 
 pub returns : goal.returns
-returns c = searched_end limits.width c.args.rules.now c.args.index.now _ _ c.args.none c.loop-k.invariant (omega (arith, c.lower-end.ensures))
+returns c = searched_end limits.width c.args.rules.now c.args.index.now _ _ c.loop-k.invariant (omega (arith, c.min-end.ensures))

@@ -1,16 +1,9 @@
--- `lines::digit_of` meets its contract: the tests that lead to each `return` say which case of `digit` holds. Assumes nothing.
-use borrow.Author.Tests.{lt-ltb, le-ltb}
-use Rattle.lines.specs.Number.{digit}
+-- `lines::digit_of` meets its contract. Assumes nothing.
+use Rattle.lines.proofs.NumberSteps.{digit_of_byte, digit_of_none}
 use Rattle.lines.proofs.digit_of.Goals as goal
 
-pub returns-then-b-lt48 : goal.returns-then-b-lt48
-unfolding digit
-returns-then-b-lt48 c = simp (lt-ltb _ _ c.if-b-lt48.true)
-
-pub returns-then-b-gt57 : goal.returns-then-b-gt57
-unfolding digit
-returns-then-b-gt57 c = simp (le-ltb _ _ c.if-b-lt48.false, lt-ltb _ _ c.if-b-gt57.true)
+pub returns-then-is_ascii_digit : goal.returns-then-is_ascii_digit
+returns-then-is_ascii_digit c = let h = c.if-is_ascii_digit.ensures.cases in digit_of_byte _ h.0 h.1
 
 pub returns : goal.returns
-unfolding digit
-returns c = simp (le-ltb _ _ c.if-b-lt48.false, le-ltb _ _ c.if-b-gt57.false)
+returns c = digit_of_none _ c.if-is_ascii_digit.ensures.cases

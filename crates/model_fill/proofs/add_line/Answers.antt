@@ -12,28 +12,28 @@ pub returns-in_default : goal.returns-in_default
 returns-in_default c = adds_misshapen limits _ c.args.x.now _ (sym c.in_default.is ∙ c.split.ensures) c.requires.1
 
 pub overflow_sub-to : goal.overflow_sub-to
-overflow_sub-to c = let m = split_shown c.args.x.now (sym c.split.ensures ∙ c.in-Field.is) in
+overflow_sub-to c = let m = split_shown c.args.x.now (sym c.split.ensures ∙ c.in-Some.is) in
     omega (arith, m.room)
 
 pub slice_bounds-fill_sets-count : goal.slice_bounds-fill_sets-count
-slice_bounds-fill_sets-count c = let m = split_shown c.args.x.now (sym c.split.ensures ∙ c.in-Field.is) in
+slice_bounds-fill_sets-count c = let m = split_shown c.args.x.now (sym c.split.ensures ∙ c.in-Some.is) in
     omega (arith, m.room)
 
 pub slice_bounds-fill_sets-start : goal.slice_bounds-fill_sets-start
-slice_bounds-fill_sets-start c = let m = split_shown c.args.x.now (sym c.split.ensures ∙ c.in-Field.is) in
+slice_bounds-fill_sets-start c = let m = split_shown c.args.x.now (sym c.split.ensures ∙ c.in-Some.is) in
     omega (arith, m.room)
 
 pub returns-in_default-sets : goal.returns-in_default-sets
 unfolding token_field
 returns-in_default-sets c = let f = c.fill_sets-sets in
-    adds_unfit limits _ c.args.x.now _ _ c.requires.1 c.requires.0 (sym c.in-Field.is ∙ c.split.ensures) f.ensures (f.auto.bears ∙ lent_length _ _ c.args.bears.now refl) (f.auto.ends ∙ lent_length _ _ c.args.ends.now refl) (f.auto.next ∙ lent_length _ _ c.args.next.now refl) (sym c.in_default-sets.is)
+    adds_unfit limits _ c.args.x.now _ _ c.requires.1 c.requires.0 (sym c.in-Some.is ∙ c.split.ensures) f.ensures (f.auto.bears ∙ lent_length _ _ c.args.bears.now refl) (f.auto.ends ∙ lent_length _ _ c.args.ends.now refl) (f.auto.next ∙ lent_length _ _ c.args.next.now refl) (sym c.in_default-sets.is)
 
 pub overflow_add-behind : goal.overflow_add-behind
-overflow_add-behind c = let z = answer_few limits.states _ _ _ _ (sym c.in-Places.is ∙ c.fill_sets-sets.ensures.answer) in
+overflow_add-behind c = let z = answer_few limits.states _ _ _ _ (sym c.in-Some-sets.is ∙ c.fill_sets-sets.ensures.answer) in
     let h = c.requires.0 in
     omega arith
 
 pub returns : goal.returns
 unfolding token_field
 returns c = let f = c.fill_sets-sets in
-    adds_line limits _ c.args.x.now _ _ c.requires.1 c.requires.0 (sym c.in-Field.is ∙ c.split.ensures) f.ensures (f.auto.bears ∙ lent_length _ _ c.args.bears.now refl) (f.auto.ends ∙ lent_length _ _ c.args.ends.now refl) (f.auto.next ∙ lent_length _ _ c.args.next.now refl) (sym c.in-Places.is) c.fill.ensures
+    adds_line limits _ c.args.x.now _ _ c.requires.1 c.requires.0 (sym c.in-Some.is ∙ c.split.ensures) f.ensures (f.auto.bears ∙ lent_length _ _ c.args.bears.now refl) (f.auto.ends ∙ lent_length _ _ c.args.ends.now refl) (f.auto.next ∙ lent_length _ _ c.args.next.now refl) (sym c.in-Some-sets.is) c.fill.ensures

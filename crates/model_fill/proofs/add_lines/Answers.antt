@@ -1,4 +1,4 @@
-use mathlib.Core.Path.{refl, sym, ◌∙◌}
+use mathlib.Core.Path.{refl}
 use native.Mathlib.Omega.{arith}
 use Rattle.paper.specs.Limits.{limits}
 use Rattle.lines.proofs.LinesLaws.{lines_at}
@@ -23,18 +23,6 @@ add_line-behind-requires c = (line_room limits (omega arith) c.loop-at.invariant
 pub overflow_add-k : goal.overflow_add-k
 overflow_add-k c = omega (arith, going_few limits (omega arith) c.loop-at.invariant)
 
-pub shape_of-bears-then-clashes : goal.shape_of-bears-then-clashes
-shape_of-bears-then-clashes c = c.add_line-behind.ensures.long.bears ∙ sym c.requires.1.long.bears
-
-pub shape_of-owners-then-clashes : goal.shape_of-owners-then-clashes
-shape_of-owners-then-clashes c = c.add_line-behind.ensures.long.owners ∙ sym c.requires.1.long.owners
-
-pub shape_of-ends-then-clashes : goal.shape_of-ends-then-clashes
-shape_of-ends-then-clashes c = c.add_line-behind.ensures.long.ends ∙ sym c.requires.1.long.ends
-
-pub shape_of-next-then-clashes : goal.shape_of-next-then-clashes
-shape_of-next-then-clashes c = c.add_line-behind.ensures.long.next ∙ sym c.requires.1.long.next
-
 pub returns-then-clashes : goal.returns-then-clashes
 returns-then-clashes c = going_ambiguous limits (omega arith) c.loop-at.invariant c.loop-at-test.true c.line_end-end.ensures refl c.add_line-behind.ensures refl c.clashes.ensures c.if-clashes.true
 
@@ -44,18 +32,6 @@ loop-at-smaller c = let z = (lines_at _ _ _ c.loop-at-test.true c.line_end-end.e
 
 pub loop-at-preserved : goal.loop-at-preserved
 loop-at-preserved c = going_more limits (omega arith) c.loop-at.invariant c.loop-at-test.true c.line_end-end.ensures refl c.add_line-behind.ensures c.clashes.ensures c.if-clashes.false
-
-pub shape_of-bears : goal.shape_of-bears
-shape_of-bears c = c.loop-at.invariant.kept.long.bears ∙ sym c.requires.1.long.bears
-
-pub shape_of-owners : goal.shape_of-owners
-shape_of-owners c = c.loop-at.invariant.kept.long.owners ∙ sym c.requires.1.long.owners
-
-pub shape_of-ends : goal.shape_of-ends
-shape_of-ends c = c.loop-at.invariant.kept.long.ends ∙ sym c.requires.1.long.ends
-
-pub shape_of-next : goal.shape_of-next
-shape_of-next c = c.loop-at.invariant.kept.long.next ∙ sym c.requires.1.long.next
 
 pub returns : goal.returns
 returns c = going_end limits (omega arith) c.loop-at.invariant c.loop-at-test.false

@@ -7,27 +7,27 @@ use Rattle.model_line.proofs.LineLaws.{model_none, model_read_lem, model_bad}
 use borrow.Author.Rules.{rules}
 use Rattle.model_line.proofs.read_content.Goals as goal
 
-pub returns-in_default : goal.returns-in_default
-returns-in_default c = model_none _ _ _ (sym c.split.ensures ∙ c.in_default.is)
+pub returns-in_err-symbol : goal.returns-in_err-symbol
+returns-in_err-symbol c = c.from_residual.ensures ∙ model_none _ _ _ (sym c.split.ensures ∙ c.in_err-symbol.was)
 
 pub overflow_sub-to : goal.overflow_sub-to
-overflow_sub-to c = let m = split_shown c.args.x.now (sym c.split.ensures ∙ c.in-Field.is) in
+overflow_sub-to c = let m = split_shown c.args.x.now (sym c.split.ensures ∙ c.in_ok-symbol.was) in
     omega (arith, m.room)
 
 pub slice_bounds-read_model-count : goal.slice_bounds-read_model-count
-slice_bounds-read_model-count c = let m = split_shown c.args.x.now (sym c.split.ensures ∙ c.in-Field.is) in
+slice_bounds-read_model-count c = let m = split_shown c.args.x.now (sym c.split.ensures ∙ c.in_ok-symbol.was) in
     omega (arith, m.room)
 
 pub slice_bounds-read_model-start : goal.slice_bounds-read_model-start
-slice_bounds-read_model-start c = let m = split_shown c.args.x.now (sym c.split.ensures ∙ c.in-Field.is) in
+slice_bounds-read_model-start c = let m = split_shown c.args.x.now (sym c.split.ensures ∙ c.in_ok-symbol.was) in
     search rules
 
-pub returns-in-Places : goal.returns-in-Places
+pub returns : goal.returns
 unfolding token_field
-returns-in-Places c = let e = sym c.split.ensures ∙ c.in-Field.is in
-    model_read_lem _ _ _ e (sym c.read_model.ensures ∙ c.in-Places.is)
+returns c = let e = sym c.split.ensures ∙ c.in_ok-symbol.was in
+    model_read_lem _ _ _ e (sym c.read_model.ensures ∙ c.in_ok-places.was)
 
-pub returns-in-Bad : goal.returns-in-Bad
+pub returns-in_err-places : goal.returns-in_err-places
 unfolding token_field
-returns-in-Bad c = let e = sym c.split.ensures ∙ c.in-Field.is in
-    model_bad _ _ _ e (sym c.read_model.ensures ∙ c.in-Bad.is)
+returns-in_err-places c = let e = sym c.split.ensures ∙ c.in_ok-symbol.was in
+    c.from_residual-in_err-places.ensures ∙ model_bad _ _ _ e (sym c.read_model.ensures ∙ c.in_err-places.was)

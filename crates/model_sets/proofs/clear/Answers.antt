@@ -6,13 +6,10 @@ pub returns-then-kept-ne0 : goal.returns-then-kept-ne0
 returns-then-kept-ne0 c = clear_kept _ _ _ _ c.if-kept-ne0.true
 
 pub loop-j-init : goal.loop-j-init
-loop-j-init c = (omega arith, (omega arith, clear_start _ _))
-
-pub bounds-flags-j : goal.bounds-flags-j
-bounds-flags-j c = omega (arith, c.loop-j.invariant.1.1.size)
+loop-j-init c = clear_start _ _
 
 pub loop-j-preserved : goal.loop-j-preserved
-loop-j-preserved c = (omega arith, (omega arith, clear_more _ _ _ _ c.loop-j.invariant.0 (omega (arith, c.loop-j.invariant.1.1.size)) c.loop-j.invariant.1.1))
+loop-j-preserved c = clear_more _ _ _ _ (omega arith) (omega (arith, c.loop-j.invariant.size)) c.loop-j.invariant
 
 pub returns : goal.returns
-returns c = clear_end _ _ _ _ _ _ c.if-kept-ne0.false (omega arith) c.loop-j.invariant.1.1
+returns c = clear_end _ _ _ _ _ _ c.if-kept-ne0.false (omega arith) c.loop-j.invariant

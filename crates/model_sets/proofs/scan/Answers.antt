@@ -13,12 +13,6 @@ returns-in_default c = absurd (going_bad limits c.loop-at.invariant.0 c.loop-at-
 pub bear-requires : goal.bear-requires
 bear-requires c = going_room limits c.loop-at.invariant.0 c.loop-at-test.true (sym c.read_token.ensures ∙ c.in-One.is)
 
-pub slice_bounds-step-end : goal.slice_bounds-step-end
-slice_bounds-step-end c = omega (arith, c.loop-at.invariant.0.starts)
-
-pub slice_bounds-step-end-in-loop-at : goal.slice_bounds-step-end-in-loop-at
-slice_bounds-step-end-in-loop-at c = omega (arith, c.loop-at.invariant.0.empties)
-
 pub step-done-requires : goal.step-done-requires
 step-done-requires c = going_ready limits c.loop-at.invariant.0 c.loop-at-test.true (sym c.read_token.ensures ∙ c.in-One.is)
 
@@ -29,12 +23,6 @@ pub loop-at-preserved : goal.loop-at-preserved
 loop-at-preserved c = let k = c.step-done.auto in
     let v = c.loop-at.invariant.1 in
     (going_on limits c.loop-at.invariant.0 c.loop-at-test.true (sym c.read_token.ensures ∙ c.in-One.is) c.bear.ensures c.step-done.ensures c.bear.auto.bears k.ends k.next k.starts k.empties v.0, (c.bear.auto.bears ∙ v.0, (k.ends ∙ v.1.0, k.next ∙ v.1.1)))
-
-pub bounds-empties-0 : goal.bounds-empties-0
-bounds-empties-0 c = omega (arith, c.loop-at.invariant.0.empties)
-
-pub bounds-ends-0 : goal.bounds-ends-0
-bounds-ends-0 c = omega (arith, c.loop-at.invariant.0.room.1.1.0)
 
 pub returns : goal.returns
 returns c = going_end limits c.loop-at.invariant.0 c.loop-at-test.false c.loop-at.invariant.1.1.0 c.loop-at.invariant.1.1.1

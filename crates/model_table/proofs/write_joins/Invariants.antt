@@ -1,5 +1,4 @@
 -- `model_table::write_joins` meets its contract: the join rules are put where they fit. Assumes nothing.
-use Prim.Native.Nat.{◌≤◌, ◌-◌}
 use Rattle.paper.specs.Limits.{limits}
 use Rattle.compiled.specs.States.{each}
 use Rattle.model_table.specs.Work.{joins_from}
@@ -7,7 +6,4 @@ use Rattle.model_table.proofs.WriteLaws.{Laid}
 use Rattle.model_table.proofs.write_joins.Given as goal
 
 abbrev pub invariant-loop-q : goal.invariant-loop-q
-invariant-loop-q l = (l.q ≤ l.states) × Laid l.initial.rules 0 (each l.q (joins_from limits.states l.symbols l.states l.bears l.next)) l.e l.rules
-
-abbrev pub decreases-loop-q : goal.decreases-loop-q
-decreases-loop-q l = l.states - l.q
+invariant-loop-q l = Laid l.initial.rules 0 (each l.q (joins_from limits.states l.symbols l.s.count l.s.bears.now l.s.next.now)) l.e l.rules

@@ -9,43 +9,43 @@ use Rattle.model_table.proofs.write_rules.Goals as goal
 
 pub offset_bounds-rules-a : goal.offset_bounds-rules-a
 unfolding the_numbers_by
-offset_bounds-rules-a c = let z = first_inside (numbers (the_leaves_by _ _ c.args.bears.now c.args.owners.now)) (numbers (the_eps_by _ c.args.ends.now c.args.owners.now)) (numbers (the_joins_by limits.states _ _ c.args.bears.now c.args.next.now)) c.args.rules.now c.requires.2 c.write_leaves-a.ensures in
-    let l = first_long (numbers (the_leaves_by _ _ c.args.bears.now c.args.owners.now)) (numbers (the_eps_by _ c.args.ends.now c.args.owners.now)) (numbers (the_joins_by limits.states _ _ c.args.bears.now c.args.next.now)) c.args.rules.now c.requires.2 c.write_leaves-a.ensures in
+offset_bounds-rules-a c = let z = first_inside (numbers (the_leaves_by _ _ c.args.s.bears.now c.args.s.owners.now)) (numbers (the_eps_by _ c.args.s.ends.now c.args.s.owners.now)) (numbers (the_joins_by limits.states _ _ c.args.s.bears.now c.args.s.next.now)) c.args.rules.now c.requires.2 c.write_leaves-a.ensures in
+    let l = first_long (numbers (the_leaves_by _ _ c.args.s.bears.now c.args.s.owners.now)) (numbers (the_eps_by _ c.args.s.ends.now c.args.s.owners.now)) (numbers (the_joins_by limits.states _ _ c.args.s.bears.now c.args.s.next.now)) c.args.rules.now c.requires.2 c.write_leaves-a.ensures in
     omega arith
 
 pub slice_bounds-write_eps-count : goal.slice_bounds-write_eps-count
 unfolding the_numbers_by
-slice_bounds-write_eps-count c = first_inside (numbers (the_leaves_by _ _ c.args.bears.now c.args.owners.now)) (numbers (the_eps_by _ c.args.ends.now c.args.owners.now)) (numbers (the_joins_by limits.states _ _ c.args.bears.now c.args.next.now)) c.args.rules.now c.requires.2 c.write_leaves-a.ensures
+slice_bounds-write_eps-count c = first_inside (numbers (the_leaves_by _ _ c.args.s.bears.now c.args.s.owners.now)) (numbers (the_eps_by _ c.args.s.ends.now c.args.s.owners.now)) (numbers (the_joins_by limits.states _ _ c.args.s.bears.now c.args.s.next.now)) c.args.rules.now c.requires.2 c.write_leaves-a.ensures
 
 pub slice_bounds-write_eps-start : goal.slice_bounds-write_eps-start
 unfolding the_numbers_by
-slice_bounds-write_eps-start c = first_inside (numbers (the_leaves_by _ _ c.args.bears.now c.args.owners.now)) (numbers (the_eps_by _ c.args.ends.now c.args.owners.now)) (numbers (the_joins_by limits.states _ _ c.args.bears.now c.args.next.now)) c.args.rules.now c.requires.2 c.write_leaves-a.ensures
+slice_bounds-write_eps-start c = first_inside (numbers (the_leaves_by _ _ c.args.s.bears.now c.args.s.owners.now)) (numbers (the_eps_by _ c.args.s.ends.now c.args.s.owners.now)) (numbers (the_joins_by limits.states _ _ c.args.s.bears.now c.args.s.next.now)) c.args.rules.now c.requires.2 c.write_leaves-a.ensures
 
 pub overflow_add-b : goal.overflow_add-b
 unfolding the_numbers_by
-overflow_add-b c = let z = second_inside (numbers (the_leaves_by _ _ c.args.bears.now c.args.owners.now)) (numbers (the_eps_by _ c.args.ends.now c.args.owners.now)) (numbers (the_joins_by limits.states _ _ c.args.bears.now c.args.next.now)) c.args.rules.now c.requires.2 c.write_leaves-a.ensures refl c.write_eps.ensures in
-    let l = second_long (numbers (the_leaves_by _ _ c.args.bears.now c.args.owners.now)) (numbers (the_eps_by _ c.args.ends.now c.args.owners.now)) (numbers (the_joins_by limits.states _ _ c.args.bears.now c.args.next.now)) c.args.rules.now c.requires.2 c.write_leaves-a.ensures refl c.write_eps.ensures in
+overflow_add-b c = let z = second_inside (numbers (the_leaves_by _ _ c.args.s.bears.now c.args.s.owners.now)) (numbers (the_eps_by _ c.args.s.ends.now c.args.s.owners.now)) (numbers (the_joins_by limits.states _ _ c.args.s.bears.now c.args.s.next.now)) c.args.rules.now c.requires.2 c.write_leaves-a.ensures refl c.write_eps.ensures in
+    let l = second_long (numbers (the_leaves_by _ _ c.args.s.bears.now c.args.s.owners.now)) (numbers (the_eps_by _ c.args.s.ends.now c.args.s.owners.now)) (numbers (the_joins_by limits.states _ _ c.args.s.bears.now c.args.s.next.now)) c.args.rules.now c.requires.2 c.write_leaves-a.ensures refl c.write_eps.ensures in
     omega arith
 
 pub offset_bounds-rules-b : goal.offset_bounds-rules-b
 unfolding the_numbers_by
-offset_bounds-rules-b c = let z = second_inside (numbers (the_leaves_by _ _ c.args.bears.now c.args.owners.now)) (numbers (the_eps_by _ c.args.ends.now c.args.owners.now)) (numbers (the_joins_by limits.states _ _ c.args.bears.now c.args.next.now)) c.args.rules.now c.requires.2 c.write_leaves-a.ensures refl c.write_eps.ensures in
-    let l = second_long (numbers (the_leaves_by _ _ c.args.bears.now c.args.owners.now)) (numbers (the_eps_by _ c.args.ends.now c.args.owners.now)) (numbers (the_joins_by limits.states _ _ c.args.bears.now c.args.next.now)) c.args.rules.now c.requires.2 c.write_leaves-a.ensures refl c.write_eps.ensures in
+offset_bounds-rules-b c = let z = second_inside (numbers (the_leaves_by _ _ c.args.s.bears.now c.args.s.owners.now)) (numbers (the_eps_by _ c.args.s.ends.now c.args.s.owners.now)) (numbers (the_joins_by limits.states _ _ c.args.s.bears.now c.args.s.next.now)) c.args.rules.now c.requires.2 c.write_leaves-a.ensures refl c.write_eps.ensures in
+    let l = second_long (numbers (the_leaves_by _ _ c.args.s.bears.now c.args.s.owners.now)) (numbers (the_eps_by _ c.args.s.ends.now c.args.s.owners.now)) (numbers (the_joins_by limits.states _ _ c.args.s.bears.now c.args.s.next.now)) c.args.rules.now c.requires.2 c.write_leaves-a.ensures refl c.write_eps.ensures in
     omega arith
 
 pub slice_bounds-write_joins-count : goal.slice_bounds-write_joins-count
 unfolding the_numbers_by
-slice_bounds-write_joins-count c = second_inside (numbers (the_leaves_by _ _ c.args.bears.now c.args.owners.now)) (numbers (the_eps_by _ c.args.ends.now c.args.owners.now)) (numbers (the_joins_by limits.states _ _ c.args.bears.now c.args.next.now)) c.args.rules.now c.requires.2 c.write_leaves-a.ensures refl c.write_eps.ensures
+slice_bounds-write_joins-count c = second_inside (numbers (the_leaves_by _ _ c.args.s.bears.now c.args.s.owners.now)) (numbers (the_eps_by _ c.args.s.ends.now c.args.s.owners.now)) (numbers (the_joins_by limits.states _ _ c.args.s.bears.now c.args.s.next.now)) c.args.rules.now c.requires.2 c.write_leaves-a.ensures refl c.write_eps.ensures
 
 pub slice_bounds-write_joins-start : goal.slice_bounds-write_joins-start
 unfolding the_numbers_by
-slice_bounds-write_joins-start c = second_inside (numbers (the_leaves_by _ _ c.args.bears.now c.args.owners.now)) (numbers (the_eps_by _ c.args.ends.now c.args.owners.now)) (numbers (the_joins_by limits.states _ _ c.args.bears.now c.args.next.now)) c.args.rules.now c.requires.2 c.write_leaves-a.ensures refl c.write_eps.ensures
+slice_bounds-write_joins-start c = second_inside (numbers (the_leaves_by _ _ c.args.s.bears.now c.args.s.owners.now)) (numbers (the_eps_by _ c.args.s.ends.now c.args.s.owners.now)) (numbers (the_joins_by limits.states _ _ c.args.s.bears.now c.args.s.next.now)) c.args.rules.now c.requires.2 c.write_leaves-a.ensures refl c.write_eps.ensures
 
 pub overflow_add-result : goal.overflow_add-result
 unfolding the_numbers_by
-overflow_add-result c = let z = third_inside (numbers (the_leaves_by _ _ c.args.bears.now c.args.owners.now)) (numbers (the_eps_by _ c.args.ends.now c.args.owners.now)) (numbers (the_joins_by limits.states _ _ c.args.bears.now c.args.next.now)) c.args.rules.now c.requires.2 c.write_leaves-a.ensures refl c.write_eps.ensures refl c.write_joins.ensures in
+overflow_add-result c = let z = third_inside (numbers (the_leaves_by _ _ c.args.s.bears.now c.args.s.owners.now)) (numbers (the_eps_by _ c.args.s.ends.now c.args.s.owners.now)) (numbers (the_joins_by limits.states _ _ c.args.s.bears.now c.args.s.next.now)) c.args.rules.now c.requires.2 c.write_leaves-a.ensures refl c.write_eps.ensures refl c.write_joins.ensures in
     omega arith
 
 pub returns : goal.returns
 unfolding the_numbers_by
-returns c = all_put (numbers (the_leaves_by _ _ c.args.bears.now c.args.owners.now)) (numbers (the_eps_by _ c.args.ends.now c.args.owners.now)) (numbers (the_joins_by limits.states _ _ c.args.bears.now c.args.next.now)) c.args.rules.now c.requires.2 c.write_leaves-a.ensures refl c.write_eps.ensures refl c.write_joins.ensures
+returns c = all_put (numbers (the_leaves_by _ _ c.args.s.bears.now c.args.s.owners.now)) (numbers (the_eps_by _ c.args.s.ends.now c.args.s.owners.now)) (numbers (the_joins_by limits.states _ _ c.args.s.bears.now c.args.s.next.now)) c.args.rules.now c.requires.2 c.write_leaves-a.ensures refl c.write_eps.ensures refl c.write_joins.ensures

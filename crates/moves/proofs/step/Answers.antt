@@ -16,4 +16,4 @@ pub returns-then-to-j : goal.returns-then-to-j
 returns-then-to-j c = nowhere (λ h. omega (arith, h.right))
 
 pub returns : goal.returns
-returns c = looked (record { long = omega arith; index = omega arith; left = omega arith; right = omega arith }) c.target.ensures
+returns c = rw c.unwrap_or.ensures (looked (record { long = omega arith; index = omega arith; left = omega arith; right = omega arith }) c.target-target.ensures)

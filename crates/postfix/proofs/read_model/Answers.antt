@@ -24,16 +24,10 @@ returns-then-depth-k c =
     let e = sym c.read_token.ensures ∙ c.in-One.is in
     reached_short l t e (omega (arith, c.takes-k.ensures))
 
-pub overflow_add-depth : goal.overflow_add-depth
-overflow_add-depth c = omega (arith, c.loop-at.invariant)
-
 pub overflow_add-places : goal.overflow_add-places
 overflow_add-places c =
     let s = adds_one c.in-One.token in
     omega (arith, c.loop-at.invariant, c.adds-places.ensures)
-
-pub overflow_add-count : goal.overflow_add-count
-overflow_add-count c = omega (arith, c.loop-at.invariant)
 
 pub loop-at-smaller : goal.loop-at-smaller
 loop-at-smaller c =

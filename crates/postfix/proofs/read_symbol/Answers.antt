@@ -9,13 +9,13 @@ returns-in_default c = symbol_bad _ _ _ (sym c.read_number.ensures ∙ c.in_defa
 
 pub returns-then-symbols-a : goal.returns-then-symbols-a
 returns-then-symbols-a c =
-    symbol_over _ _ _ (sym c.read_number.ensures ∙ c.in-Value.is) c.if-symbols-a.true
+    symbol_over _ _ _ (sym c.read_number.ensures ∙ c.in-Ok.is) c.if-symbols-a.true
 
 pub parted-requires : goal.parted-requires
 parted-requires c =
     let a = c.args in
-    (number_ends a.field.now a.at (sym c.read_number.ensures ∙ c.in-Value.is)).1
+    (number_ends a.field.now a.at (sym c.read_number.ensures ∙ c.in-Ok.is)).1
 
 pub returns : goal.returns
 returns c =
-    c.parted.ensures ∙ symbol_read _ _ _ (sym c.read_number.ensures ∙ c.in-Value.is) c.if-symbols-a.false
+    c.parted.ensures ∙ symbol_read _ _ _ (sym c.read_number.ensures ∙ c.in-Ok.is) c.if-symbols-a.false

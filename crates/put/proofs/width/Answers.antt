@@ -2,9 +2,6 @@ use native.Mathlib.Omega.{arith}
 use Rattle.lines.proofs.NumberLaws.{decimal_room, length_one, length_last}
 use Rattle.put.proofs.width.Goals as goal
 
-pub loop-m-init : goal.loop-m-init
-loop-m-init c = omega (arith, c.ranges.n)
-
 pub overflow_add-k : goal.overflow_add-k
 overflow_add-k c = omega (arith, decimal_room c.args.n)
 

@@ -1,14 +1,14 @@
 -- `rule_part::faulty_line` meets its contract: by whether the sender's text is refused, and then the receiver's.
-use mathlib.Core.Path.{sym, ◌∙◌}
+use mathlib.Core.Path.{◌∙◌}
 use Rattle.paper.specs.Limits.{limits}
 use Rattle.rule_part.proofs.PartLaws.{part_sender, part_receiver, part_none}
 use Rattle.rule_part.proofs.faulty_line.Goals as goal
 
-pub returns-then-s-gt0 : goal.returns-then-s-gt0
-returns-then-s-gt0 c = c.line.ensures ∙ sym (part_sender limits _ _ c.refused_at-s.ensures c.if-s-gt0.true)
+pub returns-in-Some : goal.returns-in-Some
+returns-in-Some c = c.line.ensures ∙ part_sender limits _ _ c.in-Some.ensures.0 c.in-Some.ensures.1
 
-pub returns-then-r-gt0 : goal.returns-then-r-gt0
-returns-then-r-gt0 c = c.line-then-r-gt0.ensures ∙ sym (part_receiver limits _ _ c.refused_at-s.ensures c.if-s-gt0.false c.refused_at-r.ensures c.if-r-gt0.true)
+pub returns-in-Some-refused_at : goal.returns-in-Some-refused_at
+returns-in-Some-refused_at c = c.line-in-Some-refused_at.ensures ∙ part_receiver limits _ _ c.in_default.ensures c.in-Some-refused_at.ensures.0 c.in-Some-refused_at.ensures.1
 
 pub returns : goal.returns
-returns c = sym (part_none limits _ _ c.refused_at-s.ensures c.if-s-gt0.false c.refused_at-r.ensures c.if-r-gt0.false)
+returns c = part_none limits _ _ c.in_default.ensures c.in_default-refused_at.ensures

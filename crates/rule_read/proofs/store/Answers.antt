@@ -5,14 +5,14 @@ use Rattle.rule_read.proofs.Said.{wide_limits}
 use Rattle.rule_read.proofs.Storing.{fits_state, fits_rule, stored_head, stored_faulty, stored_state, stored_rule}
 use Rattle.rule_read.proofs.store.Goals as goal
 
-pub overflow_mul-mark : goal.overflow_mul-mark
-overflow_mul-mark c = omega (arith, (fits_state c.requires c.in-State.is).1)
+pub overflow_mul-marks : goal.overflow_mul-marks
+overflow_mul-marks c = omega (arith, (fits_state c.requires c.in-State.is).1)
 
-pub overflow_add-mark : goal.overflow_add-mark
-overflow_add-mark c = omega (arith, (fits_state c.requires c.in-State.is).1)
+pub overflow_add-marks : goal.overflow_add-marks
+overflow_add-marks c = omega (arith, (fits_state c.requires c.in-State.is).1)
 
-pub bounds-marks-m : goal.bounds-marks-m
-bounds-marks-m c = (fits_state c.requires c.in-State.is).0
+pub bounds-marks-done : goal.bounds-marks-done
+bounds-marks-done c = (fits_state c.requires c.in-State.is).0
 
 pub returns-in-Head : goal.returns-in-Head
 returns-in-Head c = stored_head limits.width _ _ _ _ c.in-Head.is

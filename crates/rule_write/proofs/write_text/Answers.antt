@@ -1,26 +1,30 @@
 -- `rule_write::write_text` meets its contract: a refused table and a short slice write nothing, and else the whole text has room.
-use mathlib.Core.Path.{sym, ap, ◌∙◌}
+use mathlib.Core.Path.{sym}
 use native.Mathlib.Omega.{arith}
+use Rattle.std.proofs.lemmas.Result.{err_from_is_err_and}
 use Rattle.paper.specs.Limits.{limits}
-use Rattle.paper.specs.Told.{check_told}
+use Rattle.put.proofs.PutLaws.{fit_kept}
+use Rattle.std.proofs.Common.{rules}
 use Rattle.rule_write.proofs.WriteLaws.{passes_states, text_laid, writes_fault, writes_short, writes_all}
 use Rattle.rule_write.proofs.Size.{table_text_size}
 use Rattle.rule_write.proofs.write_text.Goals as goal
 
+pub returns-in_err-check : goal.returns-in_err-check
+returns-in_err-check c =
+    let p = err_from_is_err_and c.from_residual.result c.from_residual.ensures.1 in
+    rw (p.1, p.2) (writes_fault limits _ _ _ _ (sym c.in_err-check.ensures))
+
 pub returns-then-out-lt-TEXT : goal.returns-then-out-lt-TEXT
-returns-then-out-lt-TEXT c = writes_short limits _ _ _ _ (sym c.check.ensures ∙ ap check_told c.in-Passes.is) c.if-out-lt-TEXT.true
+returns-then-out-lt-TEXT c = rw c.at.ensures (writes_short limits _ _ _ _ (sym c.in_ok-check.ensures) c.if-out-lt-TEXT.true)
 
 pub overflow_cast-states : goal.overflow_cast-states
-overflow_cast-states c = omega (arith, passes_states limits c.args.symbols c.args.marks.now c.args.rules.now c.args.out.now (sym c.check.ensures ∙ ap check_told c.in-Passes.is))
+overflow_cast-states c = omega (arith, passes_states limits c.args.symbols c.args.marks.now c.args.rules.now c.args.out.now (sym c.in_ok-check.ensures))
 
-pub write_states-b-requires : goal.write_states-b-requires
-write_states-b-requires c = omega (arith, passes_states limits c.args.symbols c.args.marks.now c.args.rules.now c.args.out.now (sym c.check.ensures ∙ ap check_told c.in-Passes.is))
+pub write_states-requires : goal.write_states-requires
+write_states-requires c = omega (arith, passes_states limits c.args.symbols c.args.marks.now c.args.rules.now c.args.out.now (sym c.in_ok-check.ensures))
 
-pub returns-in-Refused : goal.returns-in-Refused
-returns-in-Refused c = writes_fault limits _ _ _ _ (sym c.check.ensures ∙ ap check_told c.in-Refused.is)
-
-pub returns-else-out-lt-TEXT : goal.returns-else-out-lt-TEXT
-returns-else-out-lt-TEXT c = let p = sym c.check.ensures ∙ ap check_told c.in-Passes.is in
+pub returns : goal.returns
+returns c = let p = sym c.in_ok-check.ensures in
     let size = table_text_size c.args.symbols c.args.marks.now c.args.rules.now p in
     writes_all limits c.args.symbols c.args.marks.now c.args.rules.now c.args.out.now p c.if-out-lt-TEXT.false (omega arith)
-    (text_laid limits c.args.symbols c.args.marks.now c.args.rules.now c.args.out.now c.write_line-a.ensures c.write_states-b.ensures c.write_rules.ensures)
+    (fit_kept (search rules) (text_laid limits c.args.symbols c.args.marks.now c.args.rules.now c.args.out.now c.write_line.ensures.wrote c.write_states.ensures.fit c.write_rules.ensures.fit))

@@ -3,11 +3,11 @@ use Rattle.paper.specs.Limits.{limits}
 use Rattle.steps.proofs.RunLaws.{eps_skips, eps_adds}
 use Rattle.steps.proofs.eps_row.Goals as goal
 
-pub returns-then-rule-ne-EPSILON_RULE : goal.returns-then-rule-ne-EPSILON_RULE
-returns-then-rule-ne-EPSILON_RULE c = eps_skips limits (c.rule_row-rule.ensures.inside c.requires) c.args.pair (λ x. c.if-rule-ne-EPSILON_RULE.true x.0)
+pub returns-then-rule-ne-EPSILON_RULE-clause-step : goal.returns-then-rule-ne-EPSILON_RULE-clause-step
+returns-then-rule-ne-EPSILON_RULE-clause-step c = eps_skips limits (c.rule_row-rule.ensures.inside c.requires) c.args.pair (λ x. c.if-rule-ne-EPSILON_RULE.true x.0)
 
-pub returns-then-rule-pair : goal.returns-then-rule-pair
-returns-then-rule-pair c = eps_skips limits (c.rule_row-rule.ensures.inside c.requires) c.args.pair (λ x. c.if-rule-pair.true x.1)
+pub returns-then-rule-pair-clause-step : goal.returns-then-rule-pair-clause-step
+returns-then-rule-pair-clause-step c = eps_skips limits (c.rule_row-rule.ensures.inside c.requires) c.args.pair (λ x. c.if-rule-pair.true x.1)
 
-pub returns : goal.returns
-returns c = eps_adds limits (c.rule_row-rule.ensures.inside c.requires) c.args.pair c.if-rule-ne-EPSILON_RULE.false c.if-rule-pair.false c.number-a.ensures c.number-c.ensures c.add.ensures
+pub returns-clause-step : goal.returns-clause-step
+returns-clause-step c = eps_adds limits (c.rule_row-rule.ensures.inside c.requires) c.args.pair c.if-rule-ne-EPSILON_RULE.false c.if-rule-pair.false c.number-a.ensures c.number-c.ensures c.add.ensures.added

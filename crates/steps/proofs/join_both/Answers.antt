@@ -1,15 +1,17 @@
 -- `steps::join_both` meets its contract: one side after the other.
 use Rattle.steps.specs.Runs.{does, skips, follows}
 use Rattle.steps.proofs.join_both.Goals as goal
+use Rattle.steps.proofs.join_both.Goals.{then-rule-pair, else-rule-pair}
 
-pub returns-then-rule-pair-2 : goal.returns-then-rule-pair-2
-returns-then-rule-pair-2 c = follows (skips c.if-rule-pair.true) (skips c.if-rule-pair-2.true)
+pub returns-then-rule-pair-2-clause-steps : goal.returns-then-rule-pair-2-clause-steps
+returns-then-rule-pair-2-clause-steps c = let r = c.join_one-then-rule-pair-2.ensures.step in elim c.if-rule-pair.branch [
+  | then-rule-pair w ↦ follows (does w.if-rule-pair.true w.join_one.ensures.step)
+      (does c.if-rule-pair-2.true (rw (w.queue-is, w.join_one.ensures.kept.sizes) at r))
+  | else-rule-pair w ↦ follows (skips w.if-rule-pair.false) (does c.if-rule-pair-2.true (rw w.queue-is at r))
+]
 
-pub returns-then-rule-pair : goal.returns-then-rule-pair
-returns-then-rule-pair c = follows (skips c.if-rule-pair.true) (does c.if-rule-pair-2.false c.join_one.ensures)
-
-pub returns-then-rule-pair-3 : goal.returns-then-rule-pair-3
-returns-then-rule-pair-3 c = follows (does c.if-rule-pair.false c.join_one-e.ensures) (skips c.if-rule-pair-3.true)
-
-pub returns : goal.returns
-returns c = follows (does c.if-rule-pair.false c.join_one-e.ensures) (does c.if-rule-pair-3.false c.join_one-2.ensures)
+pub returns-else-rule-pair-2-clause-steps : goal.returns-else-rule-pair-2-clause-steps
+returns-else-rule-pair-2-clause-steps c = elim c.if-rule-pair.branch [
+  | then-rule-pair w ↦ rw w.queue-is (follows (does w.if-rule-pair.true w.join_one.ensures.step) (skips c.if-rule-pair-2.false))
+  | else-rule-pair w ↦ rw w.queue-is (follows (skips w.if-rule-pair.false) (skips c.if-rule-pair-2.false))
+]

@@ -2,7 +2,9 @@ use mathlib.Core.Path.{◌∙◌, sym, ap}
 use native.Mathlib.Omega.{arith}
 use borrow.Author.Count.{below_more}
 use Rattle.paper.specs.Limits.{limits}
-use Rattle.paper.specs.Told.{passes, check_told}
+use Rattle.paper.specs.Told.{passes, refusal}
+use Rattle.paper.specs.Faults.{number_of}
+use Rattle.paper.proofs.FaultLaws.{fault_number}
 use Rattle.paper.proofs.FirstLaws.{first_clear, first_fault}
 use Rattle.table.specs.Check.{rule_fault_of}
 use Rattle.table.specs.Links.{lists}
@@ -11,30 +13,27 @@ use Rattle.table.proofs.Rows.{row_whole}
 use Rattle.table.proofs.check_rules.Goals as goal
 
 pub loop-i-init : goal.loop-i-init
-loop-i-init c = (omega arith, λ j h. absurd (omega arith), linked_start lists (omega arith) limits c.args.rules.now c.requires)
+loop-i-init c = (λ j h. absurd (omega arith), linked_start lists (omega arith) limits c.args.rules.now c.requires)
 
 pub slice_bounds-rule_fault-end : goal.slice_bounds-rule_fault-end
-slice_bounds-rule_fault-end c = sym c.loop-i.invariant.2.long
+slice_bounds-rule_fault-end c = sym c.loop-i.invariant.1.long
 
-pub rule_fault-fault-requires : goal.rule_fault-fault-requires
-rule_fault-fault-requires c = record { width_in_bounds = row_whole {w = limits.width} (omega arith) _ _ c.loop-i-test.true; linked = c.loop-i.invariant.2 }
+pub rule_fault-requires : goal.rule_fault-requires
+rule_fault-requires c = record { width_in_bounds = row_whole {w = limits.width} (omega arith) _ _ c.loop-i-test.true; linked = c.loop-i.invariant.1 }
 
-pub refuse-requires : goal.refuse-requires
-refuse-requires c = tt
-
-pub returns-then-fault-ne0 : goal.returns-then-fault-ne0
-returns-then-fault-ne0 c = ap check_told c.refuse.ensures
-    ∙ sym (first_fault (rule_fault_of limits c.args.symbols c.args.states c.args.rules.now) _ c.rule_fault-fault.result c.loop-i.i passes
-    (record { inside = c.loop-i-test.true; here = sym c.rule_fault-fault.ensures; fault = c.if-fault-ne0.true; before = c.loop-i.invariant.1 }))
+pub returns-in-Some : goal.returns-in-Some
+returns-in-Some c = ap refusal c.at.ensures
+    ∙ sym (first_fault (rule_fault_of limits c.args.symbols c.args.states c.args.rules.now) _ (number_of c.in-Some.fault) c.loop-i.i passes
+    (record { inside = c.loop-i-test.true; here = sym c.in-Some.ensures; fault = fault_number c.in-Some.fault; before = c.loop-i.invariant.0 }))
 
 pub slice_bounds-link-end : goal.slice_bounds-link-end
-slice_bounds-link-end c = sym c.loop-i.invariant.2.long
+slice_bounds-link-end c = sym c.loop-i.invariant.1.long
 
 pub link-requires : goal.link-requires
-link-requires c = record { width_in_bounds = row_whole {w = limits.width} (omega arith) _ _ c.loop-i-test.true; linked = c.loop-i.invariant.2 }
+link-requires c = record { width_in_bounds = row_whole {w = limits.width} (omega arith) _ _ c.loop-i-test.true; linked = c.loop-i.invariant.1 }
 
 pub loop-i-preserved : goal.loop-i-preserved
-loop-i-preserved c = (omega arith, below_more _ _ c.loop-i.invariant.1 (sym c.rule_fault-fault.ensures ∙ c.if-fault-ne0.false), c.link.ensures)
+loop-i-preserved c = (below_more _ _ c.loop-i.invariant.0 (sym c.in_default.ensures), c.link.ensures)
 
 pub returns : goal.returns
-returns c = sym (first_clear (rule_fault_of limits c.args.symbols c.args.states c.args.rules.now) _ passes (λ j h. c.loop-i.invariant.1 j (omega arith)))
+returns c = sym (first_clear (rule_fault_of limits c.args.symbols c.args.states c.args.rules.now) _ passes (λ j h. c.loop-i.invariant.0 j (omega arith)))

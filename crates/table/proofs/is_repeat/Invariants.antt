@@ -5,7 +5,7 @@ use Rattle.table.proofs.LinksLaws.{Walked}
 use Rattle.table.proofs.is_repeat.Given as goal
 
 abbrev pub invariant-loop-next : goal.invariant-loop-next
-invariant-loop-next l = Walked lists limits.width l.rules l.links l.n l.kind l.left l.right l.to l.next
+invariant-loop-next l = Walked lists limits.width l.rules l.links l.n l.rule.kind l.rule.left l.rule.right l.rule.to l.next
 
 abbrev pub decreases-loop-next : goal.decreases-loop-next
 decreases-loop-next l = l.next

@@ -8,16 +8,16 @@ pub mark-requires : goal.mark-requires
 mark-requires c = c.requires
 
 pub loop-j-init : goal.loop-j-init
-loop-j-init c = (omega arith, wanting_here c.mark.ensures)
+loop-j-init c = wanting_here c.mark.ensures
 
 pub want_row-requires : goal.want_row-requires
-want_row-requires c = traced_ready c.loop-j.invariant.1.traced _ (omega arith)
+want_row-requires c = traced_ready c.loop-j.invariant.traced _ (omega arith)
 
 pub loop-j-preserved : goal.loop-j-preserved
-loop-j-preserved c = (omega arith, wanting_more (omega arith) (omega arith) c.loop-j.invariant.1 c.want_row.ensures)
+loop-j-preserved c = wanting_more (omega arith) (omega arith) c.loop-j.invariant c.want_row.ensures
 
 pub shape_of-work : goal.shape_of-work
-shape_of-work c = wanting_length _ _ c.loop-j.invariant.1 ∙ wanting_length _ _ c.mark.ensures
+shape_of-work c = wanting_length _ _ c.loop-j.invariant ∙ wanting_length _ _ c.mark.ensures
 
 pub returns : goal.returns
-returns c = let e : c.loop-j.j ≡ 0 = omega arith in wanting_from c.mark.ensures (rw e at c.loop-j.invariant.1)
+returns c = let e : c.loop-j.j ≡ 0 = omega arith in wanting_from c.mark.ensures (rw e at c.loop-j.invariant)

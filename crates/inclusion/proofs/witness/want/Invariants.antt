@@ -1,11 +1,7 @@
 -- `inclusion::witness::want` meets its contract: place by place, down from i.
-use Prim.Native.Nat.{◌≤◌, ◌+◌}
 use Rattle.pairs.specs.Memory.{memory}
 use Rattle.inclusion.specs.Write.{Wanting}
 use Rattle.inclusion.proofs.witness.want.Given as goal
 
 abbrev pub invariant-loop-j : goal.invariant-loop-j
-invariant-loop-j l = (l.j ≤ l.i + 1) × Wanting l.base l.n (memory l.base l.n l.initial.work) (memory l.base l.n l.work) l.i l.j
-
-abbrev pub decreases-loop-j : goal.decreases-loop-j
-decreases-loop-j l = l.j
+invariant-loop-j l = Wanting l.base l.n (memory l.base l.n l.initial.work) (memory l.base l.n l.work) l.i l.j
