@@ -44,6 +44,10 @@ in_range_wider l r = record {
   targets = λ k h. let a = r.targets k h in omega arith;
 }
 
+-- the rules name states below the most
+pub in_limits : {L : Limits} {ms xs : List ℕ} → Ranged L ms xs → InRange L xs L.states
+in_limits r = in_range_wider r.few r.rules
+
 module _ (L : Limits) (xs : List ℕ) {n : ℕ} (positive : 0 < L.width) (range : InRange L xs n) where
   -- row k is an ε rule
   pub eps_row_lem : (k : ℕ) → k < length xs / L.width → at xs (k * L.width) ≡ eps_kind

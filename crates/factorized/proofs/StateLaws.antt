@@ -1,5 +1,5 @@
 -- The numbers of one state, from the flags of the states that it reaches, and of one state more. Assumes nothing.
-use Prim.Native.Nat.{ℕ, ◌+◌, ◌*◌, ◌≤◌, ◌<◌}
+use Prim.Native.Nat.{ℕ, zero, suc, ◌+◌, ◌*◌, ◌≤◌, ◌<◌}
 use mir.Val.{bool_byte}
 use mathlib.Core.Path.{◌≡◌, refl, sym, ◌∙◌}
 use mathlib.Core.Logic.{inl, inr, ⊎_elim, by_cases}
@@ -7,13 +7,12 @@ use mathlib.Core.Bool.{Bool, true, false}
 use mathlib.Core.List.{List}
 use native.Mathlib.Decide.{ℕ_discrete, dec_lt}
 use native.Mathlib.Omega.{arith}
-use lib.ListN.{length, set, length-set, replicate, length-replicate, get_or-eq_default}
+use lib.ListN.{length, set, length-set, replicate, length-replicate, get_or, get_or-eq_default}
 use lib.Seq.{get_or-set_same, get_or-set_other}
 use Rattle.std.specs.Prelude.{Option, None, unwrap_or}
 use Rattle.paper.specs.Limits.{Limits, at}
 use Rattle.paper.specs.Told.{Tells}
-use Rattle.paper.proofs.TellsLaws.{tells_yes, tells_no}
-use Rattle.bits.proofs.Sets.{zeros_at}
+use Rattle.paper.proofs.TellsLaws.{tells_yes, tells_no, true_not_false}
 use Rattle.table.specs.Rules.{Rule, RulesOf, Reach, left_sort, right_sort, Final}
 use Rattle.receiver.specs.Receiver.{TwoReached}
 use Rattle.receiver.specs.Numbers.{OneOf, Ends, numbers_each}
@@ -21,24 +20,29 @@ use Rattle.factorized.specs.Work.{Stands, Flagged, Closed, Reached, StandsFlagge
 use Rattle.factorized.specs.Work.{NumbersAt, Numbered, Listed, AllNumbered}
 
 -- so many flags are there, that of p alone set
-pub flags_long : (n p : ℕ) → length {A = ℕ} (set (replicate n 0) p 1) ≡ n
-flags_long n p = length-set (replicate n 0) p 1 ∙ length-replicate {A = ℕ} n 0
+pub flags_long : (n p : ℕ) → length {A = Bool} (set (replicate n false) p true) ≡ n
+flags_long n p = length-set (replicate n false) p true ∙ length-replicate {A = Bool} n false
+
+none_flagged : (n q : ℕ) → get_or (replicate n false) q false ≡ false
+none_flagged zero q = refl
+none_flagged (suc n) zero = refl
+none_flagged (suc n) (suc q) = none_flagged n q
 
 -- what is flagged once the ε steps from p alone are closed
-pub reached_of : {R : Rule → Type 0} (n p : ℕ) (fs : List ℕ) → p < n → Closed R (set (replicate n 0) p 1) fs
+pub reached_of : {R : Rule → Type 0} (n p : ℕ) (fs : List Bool) → p < n → Closed R (set (replicate n false) p true) fs
     → Reached R p fs
 reached_of {R} n p fs h c = record { exact = λ q. (λ f. from q ((c.exact q).0 f), λ r. (c.exact q).1 (p, mine, r)) }
   where
-    long : length {A = ℕ} (replicate n 0) ≡ n
-    long = length-replicate {A = ℕ} n 0
+    long : length {A = Bool} (replicate n false) ≡ n
+    long = length-replicate {A = Bool} n false
 
-    mine : Flagged (set (replicate n 0) p 1) p
-    mine = omega (arith, get_or-set_same {A = ℕ} (replicate n 0) p 1 0 (omega (arith, long)))
+    mine : Flagged (set (replicate n false) p true) p
+    mine = get_or-set_same (replicate n false) p true false (omega (arith, long))
 
-    from : (q : ℕ) → (o : ℕ) × Flagged (set (replicate n 0) p 1) o × Reach R o q → Reach R p q
+    from : (q : ℕ) → (o : ℕ) × Flagged (set (replicate n false) p true) o × Reach R o q → Reach R p q
     from q (o, f, r) = by_cases (ℕ_discrete o p)
         (λ e. rw e at r)
-        (λ d. absurd (omega (arith, get_or-set_other {A = ℕ} (replicate n 0) p o 1 0 d, zeros_at n o)))
+        (λ d. absurd (true_not_false (sym f ∙ get_or-set_other (replicate n false) p o true false d ∙ none_flagged n o)))
 
 -- a state that may stand on a side, and a final one, is in the table
 module _ (ms : List ℕ) (q : ℕ) where
@@ -90,7 +94,7 @@ module _ (ns : List ℕ) (a l r e : ℕ) (room : a + numbers_each ≤ length ns)
       ∙ get_or-set_other ns a i l 0 (λ z. omega arith)
 
 -- state p, where exactly what it reaches is flagged
-module _ (L : Limits) (ms xs : List ℕ) (p : ℕ) (fs : List ℕ) (reached : Reached (RulesOf L.width xs) p fs) where
+module _ (L : Limits) (ms xs : List ℕ) (p : ℕ) (fs : List Bool) (reached : Reached (RulesOf L.width xs) p fs) where
   one_of : {found : Option ℕ} (s : ℕ) → 1 ≤ s → Single (StandsFlagged ms fs s) (length ms) found
       → OneOf (RulesOf L.width xs) (length ms) (Stands ms s) p (unwrap_or found (length ms))
   one_of s h (none d) = inr (refl, λ q r x. d q (stands_below ms q s h x) ((reached.exact q).1 r, x))

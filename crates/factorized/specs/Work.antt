@@ -1,6 +1,6 @@
 -- What the private functions look for and do: the first thing that is wrong, the set of left sides seen, the flags of the states that are
 -- reached, the one state on a side. Nothing of it stands in the contract of a public function.
-use Rattle.std.specs.Prelude.{ℕ, ◌+◌, ◌-◌, ◌*◌, ◌/◌, ◌≤◌, ◌<◌, ◌≡◌, ◌≢◌, ◌⊎◌, ◌↔◌, Bool, false, List, [], ◌∷◌, length, drop, Option, Some, None, Result, Ok, Err}
+use Rattle.std.specs.Prelude.{ℕ, ◌+◌, ◌*◌, ◌/◌, ◌≤◌, ◌<◌, ◌≡◌, ◌≢◌, ◌⊎◌, ◌↔◌, Bool, true, false, List, [], ◌∷◌, length, get_or, drop, Option, Some, None, Result, Ok, Err}
 use Rattle.std.proofs.Math.Logic.{ite}
 use Rattle.std.proofs.Math.Decide.{ℕ_discrete}
 use Rattle.paper.specs.Limits.{Limits, at, leaf_kind, join_kind, eps_kind}
@@ -62,20 +62,21 @@ abbrev pub Stands : List ℕ → ℕ → ℕ → Type 0
 Stands ms s q = OnSide (at ms q) s
 
 -- state q is flagged
-abbrev pub Flagged : List ℕ → ℕ → Type 0
-Flagged fs q = 1 ≤ at fs q
+abbrev pub Flagged : List Bool → ℕ → Type 0
+Flagged fs q = get_or fs q false ≡ true
 
 -- how many states are not flagged
-unfoldable pub zeros : List ℕ → ℕ
+unfoldable pub zeros : List Bool → ℕ
 zeros [] = 0
-zeros (x ∷ xs) = (1 - x) + zeros xs
+zeros (true ∷ fs) = zeros fs
+zeros (false ∷ fs) = 1 + zeros fs
 
 -- rule k flags nothing
-abbrev pub RowClosed : ℕ → List ℕ → List ℕ → ℕ → Type 0
+abbrev pub RowClosed : ℕ → List ℕ → List Bool → ℕ → Type 0
 RowClosed w xs fs k = at xs (k * w) ≡ eps_kind → Flagged fs (at xs (k * w + 1)) → Flagged fs (at xs (k * w + 3))
 
 -- ε steps flag r states
-pub record Stepped (R : Rule → Type 0) (fs : List ℕ) (r : ℕ) (gs : List ℕ) : Type 0 where
+pub record Stepped (R : Rule → Type 0) (fs : List Bool) (r : ℕ) (gs : List Bool) : Type 0 where
   pub long : length gs ≡ length fs
   pub holds : (q : ℕ) → Flagged fs q → Flagged gs q
   pub only : (q : ℕ) → Flagged gs q → (p : ℕ) × Flagged fs p × Reach R p q
@@ -83,26 +84,26 @@ pub record Stepped (R : Rule → Type 0) (fs : List ℕ) (r : ℕ) (gs : List �
   pub count : zeros gs + r ≡ zeros fs
 
 -- rule k, as an ε step, flags r states
-pub record Rowed (w : ℕ) (xs : List ℕ) (k : ℕ) (fs : List ℕ) (r : ℕ) (gs : List ℕ) : Type 0 where
+pub record Rowed (w : ℕ) (xs : List ℕ) (k : ℕ) (fs : List Bool) (r : ℕ) (gs : List Bool) : Type 0 where
   pub stepped : Stepped (RulesOf w xs) fs r gs
   pub closed : RowClosed w xs gs k
 
 -- the first k rules, as ε steps in order, flag r states; where r is 0, none of them flags anything
-pub record Passed (w : ℕ) (xs : List ℕ) (k : ℕ) (fs : List ℕ) (r : ℕ) (gs : List ℕ) : Type 0 where
+pub record Passed (w : ℕ) (xs : List ℕ) (k : ℕ) (fs : List Bool) (r : ℕ) (gs : List Bool) : Type 0 where
   pub stepped : Stepped (RulesOf w xs) fs r gs
   pub closed : r ≡ 0 → (j : ℕ) → j < k → RowClosed w xs gs j
 
 -- exactly what ε steps reach from the flagged states is flagged then
-pub record Closed (R : Rule → Type 0) (fs gs : List ℕ) : Type 0 where
+pub record Closed (R : Rule → Type 0) (fs gs : List Bool) : Type 0 where
   pub long : length gs ≡ length fs
   pub exact : (q : ℕ) → Flagged gs q ↔ ((p : ℕ) × Flagged fs p × Reach R p q)
 
 -- exactly what ε steps reach from p is flagged
-pub record Reached (R : Rule → Type 0) (p : ℕ) (fs : List ℕ) : Type 0 where
+pub record Reached (R : Rule → Type 0) (p : ℕ) (fs : List Bool) : Type 0 where
   pub exact : (q : ℕ) → Flagged fs q ↔ Reach R p q
 
 -- state q is flagged, and may stand on side s
-abbrev pub StandsFlagged : List ℕ → List ℕ → ℕ → ℕ → Type 0
+abbrev pub StandsFlagged : List ℕ → List Bool → ℕ → ℕ → Type 0
 StandsFlagged ms fs s q = Flagged fs q × Stands ms s q
 
 -- the one of the first k numbers that has P, if one has it
@@ -120,7 +121,7 @@ TheOne P n (Ok found) = Single P n found
 TheOne P n (Err two) = Two P
 
 -- a final state is flagged
-abbrev pub FinalFlagged : List ℕ → List ℕ → Type 0
+abbrev pub FinalFlagged : List ℕ → List Bool → Type 0
 FinalFlagged ms fs = (q : ℕ) × (q < length ms) × Flagged fs q × Final ms q
 
 -- e is 1 if P holds, else 0

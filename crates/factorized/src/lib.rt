@@ -7,15 +7,15 @@ ghost use Rattle.std.specs.Prelude.{◌≡◌, ◌+◌, ◌*◌, ◌/◌, ◌≤
 ghost use Rattle.paper.specs.Limits.{limits};
 ghost use Rattle.paper.specs.Told.{Tells, check_told};
 ghost use Rattle.paper.specs.First.{FindsWrong};
-ghost use Rattle.table.specs.Rules.{RulesOf};
+ghost use Rattle.table.specs.Rules.{RulesOf, Row};
 ghost use Rattle.receiver.specs.Receiver.{LeftSideAgain, BreaksSorts};
 ghost use Rattle.receiver.specs.Numbers.{numbers_size};
 ghost use Rattle.receiver.specs.Check.{ReceiverChecked};
 ghost use Rattle.factorized.specs.Factored.{Factored};
-ghost use Rattle.factorized.specs.Work.{InRange, Ranged, side_of, Seen, Looked, OnSide, Rowed, Passed, Closed};
+ghost use Rattle.factorized.specs.Work.{Ranged, side_of, Seen, Looked, OnSide, Rowed, Passed, Closed};
 ghost use Rattle.factorized.specs.Work.{StandsFlagged, TheOne, FinalFlagged, Numbered, AllNumbered, Received, Copied};
 
-use paper::{Checked, Fault, Refusal};
+use paper::{Checked, Fault, Refusal, RuleRow};
 
 // The sorts of the states that may stand left of a join, right of it, on both sides.
 // Kept: numbers, as they stand in the marks that callers lend, twice a sort and the final mark.
@@ -39,46 +39,13 @@ const SIDE_WORDS: usize = (paper::SYMBOLS as usize + paper::STATES * paper::STAT
 struct NotOne;
 
 // The number of a left side.
-fn side(kind: u16, left: u16, right: u16) -> usize
-    ensures { result ≡ side_of limits kind left right }
+fn side(rule: RuleRow) -> usize
+    ensures { result ≡ side_of limits rule.kind rule.left rule.right }
 {
-    if kind == paper::LEAF_RULE {
-        return left as usize;
+    if rule.kind == paper::LEAF_RULE {
+        return rule.left as usize;
     }
-    paper::SYMBOLS as usize + left as usize * paper::STATES + right as usize
-}
-
-// Has rule i, if no ε rule, a left side that was seen? If not, its own is put into the set.
-fn is_left_again(rules: &[u16], i: usize, seen: &mut [u16]) -> bool
-    requires in_range { InRange limits rules.now limits.states × (i < length rules.now / limits.width) }
-    requires seen { Seen limits rules.now i seen.old }
-    ensures { Looked limits rules.now i result seen.new }
-{
-    let row = i * paper::WIDTH;
-    let kind = rules[row];
-    if kind == paper::EPSILON_RULE {
-        return false;
-    }
-    let s = side(kind, rules[row + 1], rules[row + 2]);
-    if bits::get(seen, s) {
-        return true;
-    }
-    bits::put(seen, s);
-    false
-}
-
-// The first rule with an earlier one's left side, if there is one.
-fn first_left_again(rules: &[u16]) -> Option<usize>
-    requires { InRange limits rules.now limits.states }
-    ensures { FindsWrong (LeftSideAgain limits rules.now) (length rules.now / limits.width) result }
-{
-    let mut seen = [0u16; SIDE_WORDS];
-    for i in 0..rules.len() / paper::WIDTH {
-        if is_left_again(rules, i, &mut seen) {
-            return Some(i);
-        }
-    }
-    None
+    paper::SYMBOLS as usize + rule.left as usize * paper::STATES + rule.right as usize
 }
 
 // May a state with this mark stand on this side?
@@ -92,174 +59,221 @@ fn may_stand(mark: u16, side: u16) -> bool
     sort == BOTH
 }
 
-// Does rule i break the sorts?
-fn breaks_sorts(marks: &[u16], rules: &[u16], i: usize) -> bool
-    requires { InRange limits rules.now (length marks.now) × (i < length rules.now / limits.width) }
-    ensures { Tells result (BreaksSorts limits marks.now rules.now i) }
-{
-    let row = i * paper::WIDTH;
-    if rules[row] != paper::JOIN_RULE {
-        return false;
-    }
-    let left = rules[row + 1] as usize;
-    let right = rules[row + 2] as usize;
-    if may_stand(marks[left], LEFT) {
-        return !may_stand(marks[right], RIGHT);
-    }
-    true
+// A table whose rules name states that are there, and of those not too many.
+#[derive(Drop)]
+struct Table<'a> {
+    marks: &'a [u16],
+    rules: &'a [u16],
+    ghost ranged: { Ranged limits marks.now rules.now },
 }
 
-// The first rule that breaks the sorts, if there is one.
-fn first_unsorted(marks: &[u16], rules: &[u16]) -> Option<usize>
-    requires { InRange limits rules.now (length marks.now) }
-    ensures { FindsWrong (BreaksSorts limits marks.now rules.now) (length rules.now / limits.width) result }
-{
-    for i in 0..rules.len() / paper::WIDTH {
-        if breaks_sorts(marks, rules, i) {
-            return Some(i);
+impl<'a> Table<'a> {
+    // The numbers of rule i.
+    fn rule(&self, i: usize) -> RuleRow
+        requires { i < length self.now.rules.now / limits.width }
+        ensures { Row limits.width self.now.rules.now i result.kind result.left result.right result.to }
+    {
+        table::row_at(self.rules, i).unwrap()
+    }
+
+    // Has rule i, if no ε rule, a left side that was seen? If not, its own is put into the set.
+    fn is_left_again(&self, i: usize, seen: &mut [u16]) -> bool
+        requires i_in_bounds { i < length self.now.rules.now / limits.width }
+        requires seen { Seen limits self.now.rules.now i seen.old }
+        ensures { Looked limits self.now.rules.now i result seen.new }
+    {
+        let rule = self.rule(i);
+        if rule.kind == paper::EPSILON_RULE {
+            return false;
         }
-    }
-    None
-}
-
-// Flags the target of rule k, if it is an ε rule from a flagged state. Tells how many are new.
-fn step_row(rules: &[u16], k: usize, reached: &mut [u16]) -> usize
-    requires { InRange limits rules.now (length reached.old) × (k < length rules.now / limits.width) }
-    ensures { Rowed limits.width rules.now k reached.old result reached.new }
-{
-    let row = k * paper::WIDTH;
-    if rules[row] != paper::EPSILON_RULE {
-        return 0;
-    }
-    let from = rules[row + 1] as usize;
-    let to = rules[row + 3] as usize;
-    if reached[from] == 0 {
-        return 0;
-    }
-    if reached[to] != 0 {
-        return 0;
-    }
-    reached[to] = 1;
-    1
-}
-
-// Takes the ε rules in order, once each. Tells how many states are newly flagged.
-fn step_all(rules: &[u16], reached: &mut [u16]) -> usize
-    requires { InRange limits rules.now (length reached.old) }
-    ensures { Passed limits.width rules.now (length rules.now / limits.width)
-        reached.old result reached.new }
-{
-    let mut new = 0;
-    for k in 0..rules.len() / paper::WIDTH {
-        new += step_row(rules, k, reached);
-    }
-    new
-}
-
-// Flags all that ε steps reach from the flagged states.
-fn close(rules: &[u16], reached: &mut [u16])
-    requires { InRange limits rules.now (length reached.old) }
-    ensures { Closed (RulesOf limits.width rules.now)
-        reached.old reached.new }
-{
-    loop {
-        let new = step_all(rules, reached);
-        if new == 0 {
-            return;
+        let s = side(rule);
+        if bits::get(seen, s) {
+            return true;
         }
+        bits::put(seen, s);
+        false
     }
-}
 
-// Is state q flagged, and may it stand on this side?
-fn stands(marks: &[u16], reached: &[u16], side: u16, q: usize) -> bool
-    requires { (q < length marks.now) × (q < length reached.now) }
-    ensures { Tells result (StandsFlagged marks.now reached.now side q) }
-{
-    if reached[q] == 0 {
-        return false;
-    }
-    may_stand(marks[q], side)
-}
-
-// The one flagged state that may stand on this side, if there is one.
-fn the_one(marks: &[u16], reached: &[u16], side: u16) -> Result<Option<usize>, NotOne>
-    requires { length marks.now < length reached.now }
-    ensures { TheOne (StandsFlagged marks.now reached.now side) (length marks.now) result }
-{
-    let mut one = None;
-    for q in 0..marks.len() {
-        if stands(marks, reached, side, q) {
-            if one.is_some() {
-                return Err(NotOne);
-            }
-            one = Some(q);
-        }
-    }
-    Ok(one)
-}
-
-// Is a final state flagged?
-fn ends(marks: &[u16], reached: &[u16]) -> bool
-    requires { length marks.now < length reached.now }
-    ensures { Tells result (FinalFlagged marks.now reached.now) }
-{
-    for q in 0..marks.len() {
-        if reached[q] != 0 {
-            if marks[q] % 2 == 1 {
-                return true;
+    // The first rule with an earlier one's left side, if there is one.
+    fn first_left_again(&self) -> Option<usize>
+        ensures { FindsWrong (LeftSideAgain limits self.now.rules.now) (length self.now.rules.now / limits.width) result }
+    {
+        let mut seen = [0u16; SIDE_WORDS];
+        for i in 0..self.rules.len() / paper::WIDTH {
+            if self.is_left_again(i, &mut seen) {
+                return Some(i);
             }
         }
+        None
     }
-    false
-}
 
-// Writes the numbers of state p, if its ε reach is single. The sink's number, which is the number of states, stands for no state.
-fn number_state(marks: &[u16], rules: &[u16], p: usize, numbers: &mut [u16]) -> Result<(), NotOne>
-    requires ranged { Ranged limits marks.now rules.now × (length numbers.old ≡ numbers_size limits.states) }
-    requires p_in_bounds { p ≤ length marks.now }
-    ensures { Numbered limits marks.now rules.now p
-        numbers.old (is_err result) numbers.new }
-{
-    let mut reached = [0u16; paper::STATES + 1];
-    reached[p] = 1;
-    close(rules, &mut reached);
-    let left = the_one(marks, &reached, LEFT)?;
-    let right = the_one(marks, &reached, RIGHT)?;
-    let place = EACH * p;
-    numbers[place] = left.unwrap_or(marks.len()) as u16;
-    numbers[place + 1] = right.unwrap_or(marks.len()) as u16;
-    numbers[place + 2] = u16::from(ends(marks, &reached));
-    Ok(())
-}
+    // Does rule i break the sorts?
+    fn breaks_sorts(&self, i: usize) -> bool
+        requires { i < length self.now.rules.now / limits.width }
+        ensures { Tells result (BreaksSorts limits self.now.marks.now self.now.rules.now i) }
+    {
+        let rule = self.rule(i);
+        if rule.kind != paper::JOIN_RULE {
+            return false;
+        }
+        if may_stand(self.marks[rule.left as usize], LEFT) {
+            return !may_stand(self.marks[rule.right as usize], RIGHT);
+        }
+        true
+    }
 
-// Writes the numbers of all states, and of the sink as of one state more; the first state whose ε reach is not single ends it, and is told.
-fn number_states(marks: &[u16], rules: &[u16], numbers: &mut [u16]) -> Option<usize>
-    requires { Ranged limits marks.now rules.now × (length numbers.old ≡ numbers_size limits.states) }
-    ensures { AllNumbered limits marks.now rules.now result numbers.new }
-{
-    for p in 0..=marks.len() {
-        if number_state(marks, rules, p, numbers).is_err() {
-            return Some(p);
+    // The first rule that breaks the sorts, if there is one.
+    fn first_unsorted(&self) -> Option<usize>
+        ensures { FindsWrong (BreaksSorts limits self.now.marks.now self.now.rules.now) (length self.now.rules.now / limits.width) result }
+    {
+        for i in 0..self.rules.len() / paper::WIDTH {
+            if self.breaks_sorts(i) {
+                return Some(i);
+            }
+        }
+        None
+    }
+
+    // Flags the target of rule k, if it is an ε rule from a flagged state. Tells how many are new.
+    fn step_row(&self, k: usize, reached: &mut [bool]) -> usize
+        requires reached { length self.now.marks.now < length reached.old }
+        requires k_in_bounds { k < length self.now.rules.now / limits.width }
+        ensures { Rowed limits.width self.now.rules.now k reached.old result reached.new }
+    {
+        let rule = self.rule(k);
+        if rule.kind != paper::EPSILON_RULE {
+            return 0;
+        }
+        let from = rule.left as usize;
+        let to = rule.to as usize;
+        if !reached[from] {
+            return 0;
+        }
+        if reached[to] {
+            return 0;
+        }
+        reached[to] = true;
+        1
+    }
+
+    // Takes the ε rules in order, once each. Tells how many states are newly flagged.
+    fn step_all(&self, reached: &mut [bool]) -> usize
+        requires { length self.now.marks.now < length reached.old }
+        ensures { Passed limits.width self.now.rules.now (length self.now.rules.now / limits.width)
+            reached.old result reached.new }
+    {
+        let mut new = 0;
+        for k in 0..self.rules.len() / paper::WIDTH {
+            new += self.step_row(k, reached);
+        }
+        new
+    }
+
+    // Flags all that ε steps reach from the flagged states.
+    fn close(&self, reached: &mut [bool])
+        requires { length self.now.marks.now < length reached.old }
+        ensures { Closed (RulesOf limits.width self.now.rules.now)
+            reached.old reached.new }
+    {
+        loop {
+            let new = self.step_all(reached);
+            if new == 0 {
+                return;
+            }
         }
     }
-    None
-}
 
-// Looks for 7, 8 and 9; where there is none of them, the numbers of all states are written.
-fn receive(marks: &[u16], rules: &[u16], numbers: &mut [u16]) -> Checked
-    requires { Ranged limits marks.now rules.now × (length numbers.old ≡ numbers_size limits.states) }
-    ensures { Received limits marks.now rules.now numbers.new (check_told result) }
-{
-    if let Some(rule) = first_left_again(rules) {
-        return Err(Refusal::at(Fault::LeftSide, rule + 1));
+    // Is state q flagged, and may it stand on this side?
+    fn stands(&self, reached: &[bool], side: u16, q: usize) -> bool
+        requires { (q < length self.now.marks.now) × (q < length reached.now) }
+        ensures { Tells result (StandsFlagged self.now.marks.now reached.now side q) }
+    {
+        if !reached[q] {
+            return false;
+        }
+        may_stand(self.marks[q], side)
     }
-    if let Some(rule) = first_unsorted(marks, rules) {
-        return Err(Refusal::at(Fault::Sorts, rule + 1));
+
+    // The one flagged state that may stand on this side, if there is one.
+    fn the_one(&self, reached: &[bool], side: u16) -> Result<Option<usize>, NotOne>
+        requires { length self.now.marks.now < length reached.now }
+        ensures { TheOne (StandsFlagged self.now.marks.now reached.now side) (length self.now.marks.now) result }
+    {
+        let mut one = None;
+        for q in 0..self.marks.len() {
+            if self.stands(reached, side, q) {
+                if one.is_some() {
+                    return Err(NotOne);
+                }
+                one = Some(q);
+            }
+        }
+        Ok(one)
     }
-    if let Some(state) = number_states(marks, rules, numbers) {
-        return Err(Refusal::at(Fault::Reaches, state + 1));
+
+    // Is a final state flagged?
+    fn ends(&self, reached: &[bool]) -> bool
+        requires { length self.now.marks.now < length reached.now }
+        ensures { Tells result (FinalFlagged self.now.marks.now reached.now) }
+    {
+        for q in 0..self.marks.len() {
+            if reached[q] {
+                if self.marks[q] % 2 == 1 {
+                    return true;
+                }
+            }
+        }
+        false
     }
-    Ok(())
+
+    // Writes the numbers of state p, if its ε reach is single. The sink's number, which is the number of states, stands for no state.
+    fn number_state(&self, p: usize, numbers: &mut [u16]) -> Result<(), NotOne>
+        requires numbers { length numbers.old ≡ numbers_size limits.states }
+        requires p_in_bounds { p ≤ length self.now.marks.now }
+        ensures { Numbered limits self.now.marks.now self.now.rules.now p
+            numbers.old (is_err result) numbers.new }
+    {
+        let mut reached = [false; paper::STATES + 1];
+        reached[p] = true;
+        self.close(&mut reached);
+        let left = self.the_one(&reached, LEFT)?;
+        let right = self.the_one(&reached, RIGHT)?;
+        let place = EACH * p;
+        numbers[place] = left.unwrap_or(self.marks.len()) as u16;
+        numbers[place + 1] = right.unwrap_or(self.marks.len()) as u16;
+        numbers[place + 2] = u16::from(self.ends(&reached));
+        Ok(())
+    }
+
+    // Writes the numbers of all states, and of the sink as of one state more; the first state whose ε reach is not single ends it, and is told.
+    fn number_states(&self, numbers: &mut [u16]) -> Option<usize>
+        requires { length numbers.old ≡ numbers_size limits.states }
+        ensures { AllNumbered limits self.now.marks.now self.now.rules.now result numbers.new }
+    {
+        for p in 0..=self.marks.len() {
+            if self.number_state(p, numbers).is_err() {
+                return Some(p);
+            }
+        }
+        None
+    }
+
+    // Looks for 7, 8 and 9; where there is none of them, the numbers of all states are written.
+    fn receive(&self, numbers: &mut [u16]) -> Checked
+        requires { length numbers.old ≡ numbers_size limits.states }
+        ensures { Received limits self.now.marks.now self.now.rules.now numbers.new (check_told result) }
+    {
+        if let Some(rule) = self.first_left_again() {
+            return Err(Refusal::at(Fault::LeftSide, rule + 1));
+        }
+        if let Some(rule) = self.first_unsorted() {
+            return Err(Refusal::at(Fault::Sorts, rule + 1));
+        }
+        if let Some(state) = self.number_states(numbers) {
+            return Err(Refusal::at(Fault::Reaches, state + 1));
+        }
+        Ok(())
+    }
 }
 
 // Copies the first n numbers to the front of another slice, if that has room for them.
@@ -288,7 +302,7 @@ pub fn factor(symbols: u16, marks: &[u16], rules: &[u16], numbers: &mut [u16]) -
 {
     table::check(symbols, marks, rules)?;
     let mut all = [0u16; NUMBERS];
-    receive(marks, rules, &mut all)?;
+    Table { marks, rules }.receive(&mut all)?;
     copy(&all, EACH * (marks.len() + 1), numbers);
     Ok(())
 }

@@ -1,11 +1,11 @@
 -- Flags in slices and the tests that they show: what painting makes of them. Assumes nothing.
 use Prim.Native.Nat.{ℕ, ◌+◌, ◌*◌, ◌≤◌, ◌<◌}
 use mathlib.Core.Path.{◌≡◌, refl, sym, ap, ap₂, ◌∙◌}
-use mathlib.Core.Logic.{◌≢◌}
 use mathlib.Core.Bool.{Bool, true, false, not, cond, ◌&&◌, and-false}
+use mir.Val.{bool_byte}
 use mathlib.Core.List.{List}
 use native.Mathlib.Omega.{arith}
-use borrow.Author.Tests.{eq-eqb, ne_eqb, le-leb, lt-ltb, leb-true, leb-false, ltb-true, ltb-false}
+use borrow.Author.Tests.{ne_eqb, le-leb, lt-ltb, leb-true, leb-false, ltb-true, ltb-false}
 use lib.ListN.{length, set}
 use lib.Dec.{ltb, leb, eqb}
 use Rattle.paper.specs.Limits.{at}
@@ -20,14 +20,11 @@ unfolding is_set flag
 is_set_flag true = refl
 is_set_flag false = refl
 
--- a choice by a flag
-pub if_set : (v x y : ℕ) → v ≢ 0 → x ≡ cond (is_set v) x y
-unfolding is_set
-if_set v x y h = rw (ne_eqb v 0 h) refl
-
-pub if_clear : (v x y : ℕ) → v ≡ 0 → y ≡ cond (is_set v) x y
-unfolding is_set
-if_clear v x y h = rw (eq-eqb v 0 h) refl
+-- a test as a number
+pub byte_flag : (b : Bool) → bool_byte b ≡ flag b
+unfolding flag
+byte_flag true = refl
+byte_flag false = refl
 
 flag_cond : (t v b : Bool) → cond t (flag v) (flag b) ≡ flag (cond t v b)
 flag_cond true v b = refl
@@ -98,13 +95,13 @@ changed_first s v a b t {N} {N'} w f =
 
 -- a stretch cleared, or one flag set
 module _ {p : ℕ} {E₀ : List ℕ} {g : ℕ → Bool} {E : List ℕ} (m : Marks p E₀ g E) where
-  pub marks_cleared : (t : Bool) (a b : ℕ) {h : ℕ → Bool} {E' : List ℕ} → b ≤ p + 1 → Painted 0 (cleared (flag t) a b) E E'
+  pub marks_cleared : (t : Bool) (a b : ℕ) {h : ℕ → Bool} {E' : List ℕ} → b ≤ p + 1 → Painted 0 (cleared t a b) E E'
       → ((i : ℕ) → cond (not t && within a b i) false (g i) ≡ h i) → Marks p E₀ h E'
   unfolding cleared flag
   marks_cleared t a b k f e =
       marks_painted m false f
-      (λ i o. rw (high_within a b i (omega arith)) (and-false (not (is_set (flag t)))))
-      (λ i. rw (is_set_flag t) (e i))
+      (λ i o. rw (high_within a b i (omega arith)) (and-false (not t)))
+      e
 
   pub marks_set : (n : ℕ) {h : ℕ → Bool} → n ≤ p → n < length E → ((i : ℕ) → cond (within n (n + 1) i) true (g i) ≡ h i)
       → Marks p E₀ h (set E n 1)
@@ -112,14 +109,14 @@ module _ {p : ℕ} {E₀ : List ℕ} {g : ℕ → Bool} {E : List ℕ} (m : Mark
   marks_set n k l e = marks_painted m true (painted_one 1 n E l) (λ i o. high_within n (n + 1) i (omega arith)) e
 
 module _ {s p : ℕ} {N₀ : List ℕ} {f : ℕ → ℕ → Bool} {N : List ℕ} (w : p ≤ s) (c : Cells s p N₀ f N) where
-  pub cells_cleared : (t : Bool) (a b : ℕ) {g : ℕ → ℕ → Bool} {N' : List ℕ} → b ≤ p → Painted 0 (cleared (flag t) a b) N N'
+  pub cells_cleared : (t : Bool) (a b : ℕ) {g : ℕ → ℕ → Bool} {N' : List ℕ} → b ≤ p → Painted 0 (cleared t a b) N N'
       → ((i y : ℕ) → cond (eqb i 0 && (not t && within a b y)) false (f i y) ≡ g i y) → Cells s p N₀ g N'
   unfolding cleared flag
   cells_cleared t a b k x e =
-      cells_painted c false (changed_first s 0 a b (not (is_set (flag t))) (omega arith) x)
+      cells_painted c false (changed_first s 0 a b (not t) (omega arith) x)
       (λ i y o. rw (ne_eqb i 0 (λ z. omega arith)) refl)
-      (λ i y o. rw (high_within a b y (omega arith), and-false (not (is_set (flag t)))) (and-false (eqb i 0)))
-      (λ i y o q. rw (is_set_flag t) (e i y))
+      (λ i y o. rw (high_within a b y (omega arith), and-false (not t)) (and-false (eqb i 0)))
+      (λ i y o q. e i y)
 
   pub cells_set : (n : ℕ) {g : ℕ → ℕ → Bool} → n < p → n < length N
       → ((i y : ℕ) → cond (eqb i 0 && within n (n + 1) y) true (f i y) ≡ g i y) → Cells s p N₀ g (set N n 1)

@@ -19,7 +19,7 @@ use Rattle.std.specs.Prelude as std
 use Rattle.std.specs.Prelude.{Some, None}
 use Rattle.std.proofs.lemmas.Option.{none-some}
 use Rattle.model_sets.specs.Sets.{flag, Room, room?, answer_of, Holds, Fills}
-use Rattle.model_sets.specs.Work.{is_set, Painted, Changed, cleared, corner}
+use Rattle.model_sets.specs.Work.{Painted, Changed, cleared, corner}
 use Rattle.model_sets.specs.Stack.{Begins}
 use Rattle.model_sets.proofs.Painting.{in_within, high_within}
 
@@ -43,12 +43,12 @@ a_model none e = absurd (none-some _ (sym e))
 a_model (some m) e = (m, (refl, cc))
 
 -- the stretches that are clear
-cleared_in : (p i : ℕ) → i ≤ p → cleared 0 0 (p + 1) i ≡ true
-unfolding cleared is_set
+cleared_in : (p i : ℕ) → i ≤ p → cleared false 0 (p + 1) i ≡ true
+unfolding cleared
 cleared_in p i h = in_within 0 (p + 1) i (omega arith) (omega arith)
 
-cleared_out : (p i : ℕ) → p < i → cleared 0 0 (p + 1) i ≡ false
-unfolding cleared is_set
+cleared_out : (p i : ℕ) → p < i → cleared false 0 (p + 1) i ≡ false
+unfolding cleared
 cleared_out p i h = high_within 0 (p + 1) i (omega arith)
 
 corner_as : (p i y : ℕ) → corner (p + 1) p i y ≡ (leb i p && ltb y p)
@@ -63,7 +63,7 @@ twice true x y = refl
 twice false x y = refl
 
 -- the sets stand over what was cleared
-over : (s : ℕ) (m : Model) {B E N E₁ N₁ B' E' N' : List ℕ} → Painted 0 (cleared 0 0 (places m + 1)) E E₁
+over : (s : ℕ) (m : Model) {B E N E₁ N₁ B' E' N' : List ℕ} → Painted 0 (cleared false 0 (places m + 1)) E E₁
     → Changed s 0 (corner (places m + 1) (places m)) N N₁ → Holds s m B E₁ N₁ B' E' N' → Holds s m B E N B' E' N'
 over s m {B} {E} {N} x y h =
     record {
@@ -98,7 +98,7 @@ module _ (L : Limits) (n : ℕ) (f B E N : List ℕ) where
           unfilled
           (rw (found.1.0, found.1.1) (sym (if_neg (room? L.states p (length B) (length E) (length N)) h (Some p) None)))
 
-      module _ (h : Room L.states p (length B) (length E) (length N)) {E₁ N₁ : List ℕ} (x : Painted 0 (cleared 0 0 (p + 1)) E E₁)
+      module _ (h : Room L.states p (length B) (length E) (length N)) {E₁ N₁ : List ℕ} (x : Painted 0 (cleared false 0 (p + 1)) E E₁)
           (y : Changed L.states 0 (corner (p + 1) p) N N₁) where
         pub fills_begins : Begins L n f B E₁ N₁
         fills_begins =

@@ -25,11 +25,12 @@ use Rattle.postfix.proofs.TokenLaws.{none_some}
 use Rattle.postfix.proofs.Parts.{front, front_short}
 use Rattle.postfix.proofs.Stack.{left, left_cut, left_end, token_given}
 use Rattle.model_sets.specs.Sets.{flag, Room, Holds}
-use Rattle.model_sets.specs.Stack.{borne, total, ending, coming, Marks, Cells, Shows, Fits, Ready, Steps, bearing, Begins}
+use Rattle.model_sets.specs.Stack.{part, borne, total, ending, coming, Marks, Cells, Shows, Fits, Ready, Steps, bearing, Begins}
+use Rattle.model_sets.specs.declared.Part.{Part}
 use Rattle.model_sets.proofs.Flags.{mark_nullable}
 use Rattle.model_sets.proofs.Taken.{grows, one_left, then_some, read_total}
 
-pub record Going (L : Limits) (n : ℕ) (f B₀ E₀ N₀ : List ℕ) (i : ℕ) (B E N F G : List ℕ) (d k : ℕ) : Type 0 where
+pub record Going (L : Limits) (n : ℕ) (f B₀ E₀ N₀ : List ℕ) (i : ℕ) (B E N : List ℕ) (S : List Part) (d k : ℕ) : Type 0 where
   pub m : Model
   pub model : model_in L n f ≡ some m
   pub room : Room L.states (places m) (length B) (length E) (length N)
@@ -39,9 +40,8 @@ pub record Going (L : Limits) (n : ℕ) (f B₀ E₀ N₀ : List ℕ) (i : ℕ) 
   pub reads : read ts st ≡ some m
   pub few : length st + length ts ≤ L.tokens
   pub inside : i ≤ suc (length f)
-  pub starts : length F ≡ L.tokens
-  pub empties : length G ≡ L.tokens
-  pub shows : Shows L.states (places m) E₀ N₀ st E N F G d k
+  pub models : length S ≡ L.tokens
+  pub shows : Shows L.states (places m) E₀ N₀ st E N S d k
   pub bears : B ≡ borne st ++ drop (total st) B₀
 
 -- the tokens of a model
@@ -98,30 +98,30 @@ comes_one : (m : Model) (i y : ℕ) → coming (m ∷ []) i y ≡ comes m i y
 comes_one m zero y = refl
 comes_one m (suc x) y = refl
 
-module _ {s : ℕ} {B₀ E₀ N₀ B E N F G : List ℕ} {d k : ℕ} (m : Model) where
-  held : places m < length E → Shows s (places m) E₀ N₀ (m ∷ []) E N F G d k → B ≡ borne (m ∷ []) ++ drop (total (m ∷ [])) B₀
-      → length E ≡ length E₀ → length N ≡ length N₀ → Holds s m B₀ E₀ N₀ B (set E 0 (at G 0)) N
+module _ {s : ℕ} {B₀ E₀ N₀ B E N : List ℕ} {S : List Part} {d k : ℕ} (m : Model) where
+  held : places m < length E → Shows s (places m) E₀ N₀ (m ∷ []) E N S d k → B ≡ borne (m ∷ []) ++ drop (total (m ∷ [])) B₀
+      → length E ≡ length E₀ → length N ≡ length N₀ → Holds s m B₀ E₀ N₀ B (set E 0 (flag ((part S 0).empty))) N
   held l g b le ln =
       record {
         bearing = b ∙ ap (λ (x : ℕ). symbols m ++ drop x B₀) (zero-add (places m));
-        ends_length = length-set E 0 (at G 0) ∙ le;
+        ends_length = length-set E 0 (flag ((part S 0).empty)) ∙ le;
         ending = ended;
         next_length = ln;
         coming = λ i y h. g.next.cell i y h
             ∙ ap (λ (t : Bool). cond (leb i (places m) && ltb y (places m)) (flag t) (at N₀ (i * s + y))) (comes_one m i y);
       }
     where
-      ended : (i : ℕ) → at (set E 0 (at G 0)) i ≡ cond (leb i (places m)) (flag (ends m i)) (at E₀ i)
+      ended : (i : ℕ) → at (set E 0 (flag ((part S 0).empty))) i ≡ cond (leb i (places m)) (flag (ends m i)) (at E₀ i)
       ended zero =
           rw (le-leb 0 (places m) (omega arith), mark_nullable m 0)
-          (get_or-set_same E 0 (at G 0) 0 (omega arith) ∙ g.kept.1.0)
-      ended (suc x) = get_or-set_other E 0 (suc x) (at G 0) 0 (λ e. omega arith) ∙ g.ends.cell (suc x)
+          (get_or-set_same E 0 (flag ((part S 0).empty)) 0 (omega arith) ∙ ap flag g.kept.1.0)
+      ended (suc x) = get_or-set_other E 0 (suc x) (flag ((part S 0).empty)) 0 (λ e. omega arith) ∙ g.ends.cell (suc x)
 
 module _ (L : Limits) where
-  pub going_start : {n : ℕ} {f B E N F G : List ℕ} → Begins L n f B E N → length F ≡ L.tokens → length G ≡ L.tokens
-      → Going L n f B E N 0 B E N F G 0 0
+  pub going_start : {n : ℕ} {f B E N : List ℕ} {S : List Part} → Begins L n f B E N → length S ≡ L.tokens
+      → Going L n f B E N 0 B E N S 0 0
   unfolding model_in left
-  going_start {n} {f} {B} {E} {N} b hf hg =
+  going_start {n} {f} {B} {E} {N} b hs =
       let x = written_some L (tokens_of n (parts f)) b.model in
       record {
         m = b.m;
@@ -133,8 +133,7 @@ module _ (L : Limits) where
         reads = x.1.1.0;
         few = omega (arith, x.1.1.1);
         inside = omega arith;
-        starts = hf;
-        empties = hg;
+        models = hs;
         shows = record {
           height = refl;
           count = refl;
@@ -145,7 +144,7 @@ module _ (L : Limits) where
         bears = refl;
       }
 
-  module _ {n : ℕ} {f B₀ E₀ N₀ : List ℕ} {i : ℕ} {B E N F G : List ℕ} {d k : ℕ} (g : Going L n f B₀ E₀ N₀ i B E N F G d k) where
+  module _ {n : ℕ} {f B₀ E₀ N₀ : List ℕ} {i : ℕ} {B E N : List ℕ} {S : List Part} {d k : ℕ} (g : Going L n f B₀ E₀ N₀ i B E N S d k) where
     module _ (h : i ≤ length f) where
       cut : {o : Option Token} {j : ℕ} → token_of n (front (drop i f)) ≡ o → j ≡ i + suc (length (front (drop i f)))
           → ahead o (tokens_of n (left f j)) ≡ some g.ts
@@ -173,7 +172,7 @@ module _ (L : Limits) where
         pub going_past : i < j
         going_past = let z = token_given n f i h e in omega (arith, z.1)
 
-        going_fits : Fits L t (places g.m) E₀ N₀ g.st pushes.0 E N F G d k
+        going_fits : Fits L t (places g.m) E₀ N₀ g.st pushes.0 E N S d k
         going_fits =
             record {
               shows = g.shows;
@@ -182,11 +181,10 @@ module _ (L : Limits) where
               narrow = g.room.0;
               ends = g.room.1.1.0;
               next = g.room.1.1.1;
-              starts = omega (arith, fewer, g.shows.height, g.starts);
-              empties = omega (arith, fewer, g.shows.height, g.empties);
+              models = omega (arith, fewer, g.shows.height, g.models);
             }
 
-        pub going_ready : Ready L t E N F G d k
+        pub going_ready : Ready L t E N S d k
         going_ready = record { p = places g.m; E₀ = E₀; N₀ = N₀; st = g.st; st' = pushes.0; fits = going_fits }
 
         pub going_room : (a : ℕ) → t ≡ Symbol a → k < length B
@@ -196,10 +194,10 @@ module _ (L : Limits) where
             let w = subst (λ (u : List Model). total u ≤ places g.m) (sym y) going_fits.inside in
             omega (arith, w, g.shows.count, g.room.1.0)
 
-        pub going_on : {B' E' N' F' G' : List ℕ} {d' k' : ℕ} → B' ≡ bearing t k B → Steps L t E N F G d k E' N' F' G' d' k'
-            → length B' ≡ length B → length E' ≡ length E → length N' ≡ length N → length F' ≡ length F → length G' ≡ length G
-            → length B ≡ length B₀ → Going L n f B₀ E₀ N₀ j B' E' N' F' G' d' k'
-        going_on {B'} {E'} {N'} {F'} {G'} {d'} {k'} b s lb le ln lf lg l₀ =
+        pub going_on : {B' E' N' : List ℕ} {S' : List Part} {d' k' : ℕ} → B' ≡ bearing t k B → Steps L t E N S d k E' N' S' d' k'
+            → length B' ≡ length B → length E' ≡ length E → length N' ≡ length N → length S' ≡ length S
+            → length B ≡ length B₀ → Going L n f B₀ E₀ N₀ j B' E' N' S' d' k'
+        going_on {B'} {E'} {N'} {S'} {d'} {k'} b s lb le ln ls l₀ =
             let z = token_given n f i h e in
             let o = going_fits.inside in
             let y = grows B₀ t g.st pushes.0 pushes.1.0 in
@@ -214,8 +212,7 @@ module _ (L : Limits) where
               reads = pushes.1.1;
               few = omega (arith, fewer, y.height);
               inside = omega (arith, z.1, front_short (drop i f), length-drop i f);
-              starts = lf ∙ g.starts;
-              empties = lg ∙ g.empties;
+              models = ls ∙ g.models;
               shows = s.shows going_fits;
               bears = b ∙ ap (bearing t k) g.bears
                   ∙ ap (λ (x : ℕ). bearing t x (borne g.st ++ drop (total g.st) B₀)) (sym g.shows.count) ∙ w;
@@ -230,11 +227,11 @@ module _ (L : Limits) where
         one_left g.st (subst (λ (x : List Token). read x g.st ≡ some g.m) (sym z) g.reads)
 
     pub going_end : length f < i → length E ≡ length E₀ → length N ≡ length N₀ → (m : Model) → model_in L n f ≡ some m
-        → Holds L.states m B₀ E₀ N₀ B (set E 0 (at G 0)) N
+        → Holds L.states m B₀ E₀ N₀ B (set E 0 (flag ((part S 0).empty))) N
     going_end h le ln m e =
         let q : some m ≡ some g.m = sym e ∙ g.model in
         let z : m ≡ g.m = cc in
         rw z
         (held g.m g.room.1.1.0
-        (subst (λ (x : List Model). Shows L.states (places g.m) E₀ N₀ x E N F G d k) (going_model h) g.shows)
+        (subst (λ (x : List Model). Shows L.states (places g.m) E₀ N₀ x E N S d k) (going_model h) g.shows)
         (subst (λ (x : List Model). B ≡ borne x ++ drop (total x) B₀) (going_model h) g.bears) le ln)

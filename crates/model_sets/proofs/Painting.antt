@@ -90,9 +90,9 @@ module _ (v : ℕ) where
       }
 
 -- the loop of `clear`
-pub clear_kept : (kept a b : ℕ) (S : List ℕ) → kept ≢ 0 → Painted 0 (cleared kept a b) S S
-unfolding cleared is_set
-clear_kept kept a b S h = painted_none 0 (cleared kept a b) S (λ j. rw (ne_eqb kept 0 h) refl)
+pub clear_kept : (kept : Bool) (a b : ℕ) (S : List ℕ) → kept ≡ true → Painted 0 (cleared kept a b) S S
+unfolding cleared
+clear_kept kept a b S h = painted_none 0 (cleared kept a b) S (λ j. rw h refl)
 
 pub clear_start : (a : ℕ) (S : List ℕ) → Painted 0 (within a a) S S
 clear_start a S = painted_none 0 (within a a) S (within_none a)
@@ -102,9 +102,10 @@ pub clear_more : (a j : ℕ) (S S' : List ℕ) → a ≤ j → j < length S' →
 clear_more a j S S' h k g =
     painted_more 0 (within a j) (within a (j + 1)) S S' j g k (in_within a (j + 1) j h (omega arith)) (λ i d. within_else a j i d)
 
-pub clear_end : (kept a b j : ℕ) (S S' : List ℕ) → kept ≡ 0 → j ≡ b → Painted 0 (within a j) S S' → Painted 0 (cleared kept a b) S S'
-unfolding cleared is_set
-clear_end kept a b j S S' z e g = painted_as 0 (within a j) (cleared kept a b) g (λ i. rw (eq-eqb kept 0 z, e) refl)
+pub clear_end : (kept : Bool) (a b j : ℕ) (S S' : List ℕ) → kept ≡ false → j ≡ b → Painted 0 (within a j) S S'
+    → Painted 0 (cleared kept a b) S S'
+unfolding cleared
+clear_end kept a b j S S' z e g = painted_as 0 (within a j) (cleared kept a b) g (λ i. rw (z, e) refl)
 
 -- the loop of `link_row`
 module _ (N : List ℕ) (row a : ℕ) where
@@ -155,8 +156,8 @@ module _ (s p : ℕ) (w : p ≤ s) (N : List ℕ) where
   rows_start = record { size = refl; cell = λ i y h. rw (le-ltb i 0 (omega arith)) refl }
 
   module _ (k : ℕ) where
-    row_tested : (i y : ℕ) → y < s → cleared 0 (k * s) (k * s + p) (i * s + y) ≡ (eqb i k && within 0 p y)
-    unfolding cleared is_set
+    row_tested : (i y : ℕ) → y < s → cleared false (k * s) (k * s + p) (i * s + y) ≡ (eqb i k && within 0 p y)
+    unfolding cleared
     row_tested i y h =
         let e : k * s ≡ k * s + 0 = omega arith in
         ap (λ (z : ℕ). within z (k * s + p) (i * s + y)) e ∙ within_row s i k y 0 p h w
@@ -176,13 +177,13 @@ module _ (s p : ℕ) (w : p ≤ s) (N : List ℕ) where
         (λ e. rw (e, lt-ltb i (k + 1) (omega (arith, ltb-true i k e))) refl)
         (λ e. rw (e, le-ltb i (k + 1) (omega (arith, ltb-false i k e, d))) refl)
 
-    pub rows_more : (N₁ N₂ : List ℕ) → Changed s 0 (corner k p) N N₁ → Painted 0 (cleared 0 (k * s) (k * s + p)) N₁ N₂
+    pub rows_more : (N₁ N₂ : List ℕ) → Changed s 0 (corner k p) N N₁ → Painted 0 (cleared false (k * s) (k * s + p)) N₁ N₂
         → Changed s 0 (corner (k + 1) p) N N₂
     rows_more N₁ N₂ g f =
         record { size = f.size ∙ g.size; cell = λ i y h. f.cell (i * s + y) ∙ go i y h (ℕ_discrete i k) }
       where
         go : (i y : ℕ) → y < s → Dec (i ≡ k)
-            → cond (cleared 0 (k * s) (k * s + p) (i * s + y)) 0 (at N₁ (i * s + y)) ≡ cond (corner (k + 1) p i y) 0 (at N (i * s + y))
+            → cond (cleared false (k * s) (k * s + p) (i * s + y)) 0 (at N₁ (i * s + y)) ≡ cond (corner (k + 1) p i y) 0 (at N (i * s + y))
         go i y h (yes q) =
             rw (row_tested i y h, q, eq-eqb k k refl, row_whole y)
             (ap (cond (corner (k + 1) p k y) 0) (g.cell k y h ∙ rw (row_none y) refl))

@@ -21,8 +21,8 @@ pub record Changed (stride v : ℕ) (P : ℕ → ℕ → Bool) (N N' : List ℕ)
   pub cell : (i y : ℕ) → y < stride → at N' (i * stride + y) ≡ cond (P i y) v (at N (i * stride + y))
 
 -- the stretch from a to b, unless it is kept
-unfoldable pub cleared : ℕ → ℕ → ℕ → ℕ → Bool
-cleared kept a b j = not (is_set kept) && within a b j
+unfoldable pub cleared : Bool → ℕ → ℕ → ℕ → Bool
+cleared kept a b j = not kept && within a b j
 
 -- the columns below p of the rows below k
 unfoldable pub corner : ℕ → ℕ → ℕ → ℕ → Bool

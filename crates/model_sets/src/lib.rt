@@ -12,24 +12,34 @@ ghost use Rattle.model.specs.Model.{Model};
 ghost use Rattle.postfix.specs.Field.{model_in};
 ghost use Rattle.model_sets.specs.Sets.{Room, Holds, Fills};
 ghost use Rattle.model_sets.specs.Work.{Painted, Changed, cleared, corner, rowed, joined, Joinable};
-ghost use Rattle.model_sets.specs.Stack.{Ready, Steps, bearing, Begins};
+ghost use Rattle.model_sets.specs.Stack.{Begun, Stepped, Same, Stays, bearing, Begins};
 
 use model::Token;
 use postfix::Reading;
 
-// How far the scan is: so many models on the stack, and so many places in them.
+// A model on the stack: its first place, and whether it can be empty.
+#[derive(Clone, Copy)]
+struct Part {
+    pub start: usize,
+    pub empty: bool,
+}
+
+// The models so far, the top last: so many, with so many places in them, and the flags of all of these.
 #[derive(Drop)]
-struct Done {
+struct Stack<'a> {
+    pub ends: &'a mut [u16],
+    pub next: &'a mut [u16],
+    pub models: [Part; paper::TOKENS],
     pub depth: usize,
     pub places: usize,
 }
 
 // Clears the flags from a to b, unless they are to be kept.
-fn clear(flags: &mut [u16], kept: u16, a: usize, b: usize)
+fn clear(flags: &mut [u16], kept: bool, a: usize, b: usize)
     requires { (a ≤ b) × (b ≤ length flags.old) }
     ensures { Painted 0 (cleared kept a b) flags.old flags.new }
 {
-    if kept != 0 {
+    if kept {
         return;
     }
     for j in a..b {
@@ -44,7 +54,7 @@ fn clear_rows(next: &mut [u16], p: usize)
 {
     for i in 0..p + 1 {
         let row = i * paper::STATES;
-        clear(next, 0, row, row + p);
+        clear(next, false, row, row + p);
     }
 }
 
@@ -56,19 +66,6 @@ fn link_row(next: &mut [u16], row: usize, a: usize, b: usize)
     for y in a..b {
         if next[y] != 0 {
             next[row + y] = 1;
-        }
-    }
-}
-
-// Lets each place from a to b that can come first come next at each position from c to d where a word may end.
-fn link(ends: &[u16], next: &mut [u16], c: usize, d: usize, a: usize, b: usize)
-    requires { Joinable limits ends.now next.old c d a b }
-    ensures { Changed limits.states 1 (joined ends.now next.old c d a b)
-        next.old next.new }
-{
-    for i in c..d {
-        if ends[i] != 0 {
-            link_row(next, i * paper::STATES, a, b);
         }
     }
 }
@@ -89,109 +86,93 @@ fn has_room(p: usize, bears: usize, ends: usize, next: usize) -> bool
     p * paper::STATES + p <= next
 }
 
-// Puts one more place on the stack, the first and the last of a model that cannot be empty.
-fn place(
-    ends: &mut [u16],
-    next: &mut [u16],
-    starts: &mut [usize],
-    empties: &mut [u16],
-    done: Done,
-) -> Done
-    requires { (a : ℕ) × Ready limits (Symbol a)
-        ends.old next.old starts.old empties.old done.depth done.places }
-    ensures { (a : ℕ) → Steps limits (Symbol a)
-        ends.old next.old starts.old empties.old
-        done.depth done.places
-        ends.new next.new starts.new empties.new result.depth result.places }
-{
-    let d = done.depth;
-    let n = done.places;
-    ends[n + 1] = 1;
-    next[n] = 1;
-    starts[d] = n;
-    empties[d] = 0;
-    let depth = d + 1;
-    let places = n + 1;
-    Done { depth, places }
-}
+impl<'a> Stack<'a> {
+    // Lets each place from a to b that can come first come next at each position from c to d where a word may end.
+    fn link(&mut self, c: usize, d: usize, a: usize, b: usize)
+        requires { Joinable limits self.old.ends.now self.old.next.now c d a b }
+        ensures linked { Changed limits.states 1 (joined self.old.ends.now self.old.next.now c d a b)
+            self.old.next.now self.new.next.now }
+        ensures stays { Stays self.old self.new }
+        ensures same { Same self.old self.new }
+    {
+        for i in c..d {
+            if self.ends[i] != 0 {
+                link_row(self.next, i * paper::STATES, a, b);
+            }
+        }
+    }
 
-// Makes a sequence of the two last models on the stack.
-fn sequence(
-    ends: &mut [u16],
-    next: &mut [u16],
-    starts: &[usize],
-    empties: &mut [u16],
-    done: Done,
-) -> Done
-    requires { Ready limits Comma ends.old next.old starts.now empties.old done.depth done.places }
-    ensures { Steps limits Comma
-        ends.old next.old starts.now empties.old
-        done.depth done.places
-        ends.new next.new starts.now empties.new result.depth result.places }
-{
-    let n = done.places;
-    let i = done.depth - 2;
-    let l = starts[i];
-    let r = starts[i + 1];
-    let left = empties[i];
-    let right = empties[i + 1];
-    link(ends, next, l + 1, r + 1, r, n);
-    clear(next, left, r, n);
-    clear(ends, right, l + 1, r + 1);
-    empties[i] = if left != 0 { right } else { 0 };
-    let depth = i + 1;
-    Done { depth, places: n }
-}
+    // Puts one more place on the stack, the first and the last of a model that cannot be empty.
+    fn place(&mut self)
+        requires { (a : ℕ) × Begun limits (Symbol a) self.old }
+        ensures steps { (a : ℕ) → Stepped limits (Symbol a) self.old self.new }
+        ensures same { Same self.old self.new }
+    {
+        let d = self.depth;
+        let n = self.places;
+        self.ends[n + 1] = 1;
+        self.next[n] = 1;
+        self.models[d] = Part {
+            start: n,
+            empty: false,
+        };
+        self.depth = d + 1;
+        self.places = n + 1;
+    }
 
-// Reads one more token: what it makes of the models on the stack.
-fn step(
-    ends: &mut [u16],
-    next: &mut [u16],
-    starts: &mut [usize],
-    empties: &mut [u16],
-    token: Token,
-    done: Done,
-) -> Done
-    requires { Ready limits token ends.old next.old starts.old empties.old done.depth done.places }
-    ensures { Steps limits token
-        ends.old next.old starts.old empties.old
-        done.depth done.places
-        ends.new next.new starts.new empties.new result.depth result.places }
-{
-    let d = done.depth;
-    let n = done.places;
-    match token {
-        Token::Symbol(_) => place(ends, next, starts, empties, done),
-        Token::Empty => {
-            starts[d] = n;
-            empties[d] = 1;
-            let depth = d + 1;
-            Done { depth, places: n }
-        }
-        Token::Comma => sequence(ends, next, starts, empties, done),
-        Token::Bar => {
-            let depth = d - 1;
-            empties[d - 2] = if empties[d - 2] != 0 {
-                1
-            } else {
-                empties[depth]
-            };
-            Done { depth, places: n }
-        }
-        Token::Star => {
-            let m = starts[d - 1];
-            link(ends, next, m + 1, n + 1, m, n);
-            empties[d - 1] = 1;
-            done
-        }
-        Token::Query => {
-            empties[d - 1] = 1;
-            done
-        }
-        Token::Plus => {
-            let m = starts[d - 1];
-            link(ends, next, m + 1, n + 1, m, n);
-            done
+    // Makes a sequence of the two last models on the stack.
+    fn sequence(&mut self)
+        requires { Begun limits Comma self.old }
+        ensures steps { Stepped limits Comma self.old self.new }
+        ensures same { Same self.old self.new }
+    {
+        let n = self.places;
+        let i = self.depth - 2;
+        let left = self.models[i];
+        let right = self.models[i + 1];
+        self.link(left.start + 1, right.start + 1, right.start, n);
+        clear(self.next, left.empty, right.start, n);
+        clear(self.ends, right.empty, left.start + 1, right.start + 1);
+        self.models[i].empty = left.empty && right.empty;
+        self.depth = i + 1;
+    }
+
+    // Reads one more token: what it makes of the models on the stack.
+    fn step(&mut self, token: Token)
+        requires { Begun limits token self.old }
+        ensures steps { Stepped limits token self.old self.new }
+        ensures same { Same self.old self.new }
+    {
+        let d = self.depth;
+        let n = self.places;
+        match token {
+            Token::Symbol(_) => self.place(),
+            Token::Empty => {
+                self.models[d] = Part {
+                    start: n,
+                    empty: true,
+                };
+                self.depth = d + 1;
+            }
+            Token::Comma => self.sequence(),
+            Token::Bar => {
+                let left = self.models[d - 2].empty;
+                let right = self.models[d - 1].empty;
+                self.models[d - 2].empty = left || right;
+                self.depth = d - 1;
+            }
+            Token::Star => {
+                let m = self.models[d - 1].start;
+                self.link(m + 1, n + 1, m, n);
+                self.models[d - 1].empty = true;
+            }
+            Token::Query => {
+                self.models[d - 1].empty = true;
+            }
+            Token::Plus => {
+                let m = self.models[d - 1].start;
+                self.link(m + 1, n + 1, m, n);
+            }
         }
     }
 }
@@ -214,9 +195,14 @@ fn scan(field: &[u8], symbols: u16, bears: &mut [u16], ends: &mut [u16], next: &
         bears.old ends.old next.old
         bears.new ends.new next.new }
 {
-    let mut starts = [0usize; paper::TOKENS];
-    let mut empties = [0u16; paper::TOKENS];
-    let mut done = Done {
+    let bottom = Part {
+        start: 0,
+        empty: false,
+    };
+    let mut stack = Stack {
+        ends,
+        next,
+        models: [bottom; paper::TOKENS],
         depth: 0,
         places: 0,
     };
@@ -226,11 +212,11 @@ fn scan(field: &[u8], symbols: u16, bears: &mut [u16], ends: &mut [u16], next: &
         let Reading::One(token, after) = postfix::read_token(field, at, symbols) else {
             return;
         };
-        bear(bears, token, done.places);
-        done = step(ends, next, &mut starts, &mut empties, token, done);
+        bear(bears, token, stack.places);
+        stack.step(token);
         at = after;
     }
-    ends[0] = empties[0];
+    stack.ends[0] = u16::from(stack.models[0].empty);
 }
 
 // Fills the sets of the model that a field writes over so many symbols, and answers how many places it has; with no model or no room
@@ -250,7 +236,7 @@ pub fn fill_sets(
     if !has_room(p, bears.len(), ends.len(), next.len()) {
         return None;
     }
-    clear(ends, 0, 0, p + 1);
+    clear(ends, false, 0, p + 1);
     clear_rows(next, p);
     scan(field, symbols, bears, ends, next);
     Some(p)

@@ -1,5 +1,5 @@
 -- `factorized::factor` meets its contract: the table's refusal, that of `receive`, or the numbers are copied.
-use mathlib.Core.Path.{sym, refl}
+use mathlib.Core.Path.{sym}
 use native.Mathlib.Omega.{arith}
 use Rattle.std.proofs.lemmas.Result.{err_from_is_err_and}
 use Rattle.paper.specs.Limits.{limits}
@@ -13,10 +13,10 @@ returns-in_err-check c =
     let e = err_from_is_err_and c.from_residual.result c.from_residual.ensures.1 in
     rw (e.1, e.2) (factored_table limits c.args.symbols c.args.marks.now c.args.rules.now c.args.numbers.now (sym c.in_err-check.ensures))
 
-pub receive-requires : goal.receive-requires
-receive-requires c =
+pub invariant_of-receive : goal.invariant_of-receive
+invariant_of-receive c =
     let s = (passes_exactly limits c.args.symbols c.args.marks.now c.args.rules.now).0 (sym c.in_ok-check.ensures) in
-    (ranged limits (omega arith) s, refl)
+    record { ranged = ranged limits (omega arith) s }
 
 pub returns-in_err-receive : goal.returns-in_err-receive
 returns-in_err-receive c =

@@ -4,8 +4,8 @@ use Rattle.paper.specs.Limits.{limits}
 use Rattle.factorized.proofs.SideLaws.{side_leaf, side_join}
 use Rattle.factorized.proofs.side.Goals as goal
 
-pub returns-then-kind-eq-LEAF_RULE : goal.returns-then-kind-eq-LEAF_RULE
-returns-then-kind-eq-LEAF_RULE c = sym (side_leaf limits c.args.kind c.args.left c.args.right c.if-kind-eq-LEAF_RULE.true)
+pub returns-then-rule-eq-LEAF_RULE : goal.returns-then-rule-eq-LEAF_RULE
+returns-then-rule-eq-LEAF_RULE c = sym (side_leaf limits c.args.rule.kind c.args.rule.left c.args.rule.right c.if-rule-eq-LEAF_RULE.true)
 
 pub returns : goal.returns
-returns c = sym (side_join limits c.args.kind c.args.left c.args.right c.if-kind-eq-LEAF_RULE.false)
+returns c = sym (side_join limits c.args.rule.kind c.args.rule.left c.args.rule.right c.if-rule-eq-LEAF_RULE.false)

@@ -1,6 +1,0 @@
--- `factorized::the_one` meets its contract. The loop's invariant: `one` is the one state before `q`, if there is one.
-use Rattle.factorized.specs.Work.{StandsFlagged, Single}
-use Rattle.factorized.proofs.the_one.Given as goal
-
-abbrev pub invariant-loop-q : goal.invariant-loop-q
-invariant-loop-q l = Single (StandsFlagged l.marks l.reached l.side) l.q l.one
