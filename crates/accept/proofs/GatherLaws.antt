@@ -6,12 +6,9 @@ use mathlib.Core.List.{List}
 use native.Mathlib.Decide.{ℕ_discrete}
 use Rattle.paper.specs.Limits.{at}
 use Rattle.accept.specs.Work.{Added, Fits, Gathered}
-use Rattle.accept.proofs.SetLaws.{grown_refl, grown_added}
+use Rattle.accept.proofs.SetLaws.{grown_added}
 
 module _ (b w : ℕ) (xs ns : List ℕ) (i : ℕ) where
-  pub gathered_not : (k : ℕ) (s : List ℕ) → ¬ Fits b w xs k ns i s → Gathered b w xs (λ j. j ≡ k) ns i s s
-  gathered_not k s n = record { grown = grown_refl b s i; all = λ j e f. absurd (n (rw e at f)); only = λ p h x. inl x }
-
   pub gathered_one : (k : ℕ) (s t : List ℕ) → Fits b w xs k ns i s → Added b s i (at xs (k * w + 3)) t → Gathered b w xs (λ j. j ≡ k) ns i s t
   gathered_one k s t f a = record {
     grown = grown_added b a;

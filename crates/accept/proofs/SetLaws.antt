@@ -13,7 +13,7 @@ use Rattle.paper.specs.Told.{Tells}
 use Rattle.paper.proofs.TellsLaws.{tells_eq}
 use Rattle.bits.specs.Bits.{word, bit_at, Made}
 use Rattle.bits.proofs.Sets.{bit_two}
-use Rattle.accept.specs.Work.{state, In, missing, Room, Added, Grown}
+use Rattle.accept.specs.Work.{state, In, missing, Added, Grown}
 
 -- a test of two numbers tells whether they are equal
 pub eqb_tells : (x y : ℕ) → Tells (eqb x y) (x ≡ y)
@@ -72,10 +72,6 @@ module _ (b : ℕ) where
     nodes = a.nodes;
     holds = λ p k h. by_cases (ℕ_discrete p q) (λ e. rw e a.here) (λ d. a.states p k d ∙ h);
   }
-
--- the work memory keeps its room
-pub room_grown : {b : ℕ} {s t : List ℕ} {i : ℕ} → Grown b s i t → Room s i → Room t i
-room_grown g r = record { long = g.long ∙ r.long; inside = r.inside }
 
 -- how many numbers are missing, where none or one more is there
 pub missing_le : (f : ℕ → ℕ) (n : ℕ) → missing f n ≤ n

@@ -3,10 +3,10 @@
 // specs/Accept has what the answer tells, specs/Work the memory and what each function does to it.
 #![tactic(auto)]
 
-ghost use Rattle.std.specs.Prelude.{◌+◌, ◌*◌, ◌≤◌, ◌<◌, length};
+ghost use Rattle.std.specs.Prelude.{◌+◌, ◌*◌, ◌/◌, ◌≤◌, ◌<◌, length};
 ghost use Rattle.paper.specs.Limits.{limits};
 ghost use Rattle.paper.specs.Told.{Tells};
-ghost use Rattle.accept.specs.Work.{span, In, Room, Ready, Usable, StatesBelow, Added, FitsRow, GatherRow, GatherAll};
+ghost use Rattle.accept.specs.Work.{span, In, Room, Ready, Evaluable, Added, FitsRow, GatherRow, GatherAll};
 ghost use Rattle.accept.specs.Work.{PassedRow, PassedAll, ClosedAll, Going, Evaluated, IsFinal, HasFinal, Judgeable};
 ghost use Rattle.accept.specs.Accept.{AcceptsNodes, Judged, told};
 
@@ -33,111 +33,126 @@ fn add(work: &mut [u16], i: usize, q: u16)
     bits::put(work, i * SPAN + q as usize);
 }
 
-// Does rule k give node i its target, before any ε step?
-fn fits(rules: &[u16], k: usize, nodes: &[u16], i: usize, work: &[u16]) -> bool
-    requires { Usable limits.width rules.now span k × Ready nodes.now work.now i }
-    ensures { Tells result (FitsRow rules.now k nodes.now i work.now) }
-{
-    let r = k * paper::WIDTH;
-    let a = nodes[2 * i];
-    let b = nodes[2 * i + 1];
-    if b == paper::LEAF {
-        if rules[r] != paper::LEAF_RULE {
+// The rules of a table and the nodes of a tree that can be evaluated.
+#[derive(Drop)]
+struct Input<'a> {
+    rules: &'a [u16],
+    nodes: &'a [u16],
+    ghost can: { Evaluable rules.now nodes.now },
+}
+
+// Kept: by index, as this is the hottest loop; with table::row_at the slowest acceptance took 14 of a hundred more instructions.
+impl<'a> Input<'a> {
+    // Does rule k give node i its target, before any ε step?
+    fn fits(&self, k: usize, i: usize, work: &[u16]) -> bool
+        requires k_in_bounds { k < length self.now.rules.now / limits.width }
+        requires ready { Ready self.now.nodes.now work.now i }
+        ensures { Tells result (FitsRow self.now.rules.now k self.now.nodes.now i work.now) }
+    {
+        let r = k * paper::WIDTH;
+        let a = self.nodes[2 * i];
+        let b = self.nodes[2 * i + 1];
+        if b == paper::LEAF {
+            if self.rules[r] != paper::LEAF_RULE {
+                return false;
+            }
+            return self.rules[r + 1] == a;
+        }
+        if self.rules[r] != paper::JOIN_RULE {
             return false;
         }
-        return rules[r + 1] == a;
+        if !has(work, a as usize, self.rules[r + 1]) {
+            return false;
+        }
+        has(work, b as usize, self.rules[r + 2])
     }
-    if rules[r] != paper::JOIN_RULE {
-        return false;
-    }
-    if !has(work, a as usize, rules[r + 1]) {
-        return false;
-    }
-    has(work, b as usize, rules[r + 2])
-}
 
-// Adds the target of rule k to the set of node i, if the rule gives it before any ε step.
-fn gather_row(rules: &[u16], k: usize, nodes: &[u16], i: usize, work: &mut [u16])
-    requires { Usable limits.width rules.now span k × Ready nodes.now work.old i }
-    ensures { GatherRow rules.now k nodes.now i work.old work.new }
-{
-    if !fits(rules, k, nodes, i, work) {
-        return;
-    }
-    add(work, i, rules[k * paper::WIDTH + 3]);
-}
-
-// Adds to the set of node i the targets of all rules that give them before any ε step.
-fn gather(rules: &[u16], nodes: &[u16], i: usize, work: &mut [u16])
-    requires { StatesBelow limits.width rules.now span × Ready nodes.now work.old i }
-    ensures { GatherAll rules.now nodes.now i work.old work.new }
-{
-    for k in 0..rules.len() / paper::WIDTH {
-        gather_row(rules, k, nodes, i, work);
-    }
-}
-
-// Adds the target of rule k to the set of node i, if it is an ε rule from a state of the set. Tells how many are new.
-// Kept: factorized has this, step_all and close on flags in a slice; a trait for those and a node's bits, with its laws, is longer.
-fn step_row(rules: &[u16], k: usize, work: &mut [u16], i: usize) -> usize
-    requires { Usable limits.width rules.now span k × Room work.old i }
-    ensures { PassedRow rules.now k work.old i work.new result }
-{
-    let r = k * paper::WIDTH;
-    if rules[r] != paper::EPSILON_RULE {
-        return 0;
-    }
-    if !has(work, i, rules[r + 1]) {
-        return 0;
-    }
-    if has(work, i, rules[r + 3]) {
-        return 0;
-    }
-    add(work, i, rules[r + 3]);
-    1
-}
-
-// Takes the ε rules in order, once each, at the set of node i. Tells how many states are new.
-fn step_all(rules: &[u16], work: &mut [u16], i: usize) -> usize
-    requires { StatesBelow limits.width rules.now span × Room work.old i }
-    ensures { PassedAll rules.now work.old i work.new result }
-{
-    let mut new = 0;
-    for k in 0..rules.len() / paper::WIDTH {
-        new += step_row(rules, k, work, i);
-    }
-    new
-}
-
-// Adds to the set of node i all that ε steps reach from it.
-fn close(rules: &[u16], work: &mut [u16], i: usize)
-    requires { StatesBelow limits.width rules.now span × Room work.old i }
-    ensures { ClosedAll rules.now work.old i work.new }
-{
-    loop {
-        let new = step_all(rules, work, i);
-        if new == 0 {
+    // Adds the target of rule k to the set of node i, if the rule gives it before any ε step.
+    fn gather_row(&self, k: usize, i: usize, work: &mut [u16])
+        requires k_in_bounds { k < length self.now.rules.now / limits.width }
+        requires ready { Ready self.now.nodes.now work.old i }
+        ensures { GatherRow self.now.rules.now k self.now.nodes.now i work.old work.new }
+    {
+        if !self.fits(k, i, work) {
             return;
         }
+        add(work, i, self.rules[k * paper::WIDTH + 3]);
     }
-}
 
-// Evaluates node i, all nodes before it being evaluated.
-fn settle(rules: &[u16], nodes: &[u16], i: usize, work: &mut [u16])
-    requires { (2 * i + 2 ≤ length nodes.now) × Going rules.now nodes.now work.old i }
-    ensures { Going rules.now nodes.now work.new (i + 1) }
-{
-    gather(rules, nodes, i, work);
-    close(rules, work, i);
-}
+    // Adds to the set of node i the targets of all rules that give them before any ε step.
+    fn gather(&self, i: usize, work: &mut [u16])
+        requires { Ready self.now.nodes.now work.old i }
+        ensures { GatherAll self.now.rules.now self.now.nodes.now i work.old work.new }
+    {
+        for k in 0..self.rules.len() / paper::WIDTH {
+            self.gather_row(k, i, work);
+        }
+    }
 
-// Evaluates all nodes.
-fn evaluate(rules: &[u16], nodes: &[u16], work: &mut [u16])
-    requires { Going rules.now nodes.now work.old 0 }
-    ensures { Evaluated rules.now nodes.now work.new }
-{
-    for i in 0..nodes.len() / 2 {
-        settle(rules, nodes, i, work);
+    // Adds the target of rule k to the set of node i, if it is an ε rule from a state of the set. Tells how many are new.
+    // Kept: factorized has this, step_all and close on flags in a slice; a trait for those and a node's bits, with its laws, is longer.
+    fn step_row(&self, k: usize, i: usize, work: &mut [u16]) -> usize
+        requires k_in_bounds { k < length self.now.rules.now / limits.width }
+        requires room { Room work.old i }
+        ensures { PassedRow self.now.rules.now k work.old i work.new result }
+    {
+        let r = k * paper::WIDTH;
+        if self.rules[r] != paper::EPSILON_RULE {
+            return 0;
+        }
+        if !has(work, i, self.rules[r + 1]) {
+            return 0;
+        }
+        if has(work, i, self.rules[r + 3]) {
+            return 0;
+        }
+        add(work, i, self.rules[r + 3]);
+        1
+    }
+
+    // Takes the ε rules in order, once each, at the set of node i. Tells how many states are new.
+    fn step_all(&self, i: usize, work: &mut [u16]) -> usize
+        requires { Room work.old i }
+        ensures { PassedAll self.now.rules.now work.old i work.new result }
+    {
+        let mut new = 0;
+        for k in 0..self.rules.len() / paper::WIDTH {
+            new += self.step_row(k, i, work);
+        }
+        new
+    }
+
+    // Adds to the set of node i all that ε steps reach from it.
+    fn close(&self, i: usize, work: &mut [u16])
+        requires { Room work.old i }
+        ensures { ClosedAll self.now.rules.now work.old i work.new }
+    {
+        loop {
+            let new = self.step_all(i, work);
+            if new == 0 {
+                return;
+            }
+        }
+    }
+
+    // Evaluates node i, all nodes before it being evaluated.
+    fn settle(&self, i: usize, work: &mut [u16])
+        requires i_in_bounds { 2 * i + 2 ≤ length self.now.nodes.now }
+        requires going { Going self.now.rules.now self.now.nodes.now work.old i }
+        ensures { Going self.now.rules.now self.now.nodes.now work.new (i + 1) }
+    {
+        self.gather(i, work);
+        self.close(i, work);
+    }
+
+    // Evaluates all nodes.
+    fn evaluate(&self, work: &mut [u16])
+        requires { Going self.now.rules.now self.now.nodes.now work.old 0 }
+        ensures { Evaluated self.now.rules.now self.now.nodes.now work.new }
+    {
+        for i in 0..self.nodes.len() / 2 {
+            self.settle(i, work);
+        }
     }
 }
 
@@ -171,7 +186,7 @@ fn accepts(marks: &[u16], rules: &[u16], nodes: &[u16]) -> bool
     ensures { Tells result (AcceptsNodes limits marks.now rules.now nodes.now) }
 {
     let mut work = [0u16; WORDS * paper::NODES];
-    evaluate(rules, nodes, &mut work);
+    Input { rules, nodes }.evaluate(&mut work);
     has_final(marks, &work, nodes.len() / 2 - 1)
 }
 

@@ -63,9 +63,7 @@ fn star(rt: &impl Print) -> io::Result<()> {
     let mut marks = [2u16; 47];
     let mut rules = [0u16; 2308];
     let mut nodes = [0u16; 2 * paper::NODES];
-    for q in 1..23 {
-        marks[q] = 4;
-    }
+    marks[1..23].fill(4);
     marks[0] = 5;
     put_rule(&mut rules, 0, RuleRow::leaf(0, 23));
     star_ends(&mut rules);

@@ -1,5 +1,5 @@
 -- The walk down the queue: taking the marks away, one place of it, at the start, and after one place more. Assumes nothing.
-use Prim.Native.Nat.{ℕ, ◌+◌, ◌≤◌, ◌<◌}
+use Prim.Native.Nat.{ℕ, ◌+◌, ◌≤◌, ◌<◌, ◌*◌, ◌-◌}
 use mathlib.Core.Path.{◌≡◌, refl, sym, ap, ◌∙◌, subst}
 use mathlib.Core.Logic.{◌≢◌, ◌⊎◌, inl, inr, by_cases, ⊎_elim}
 use mathlib.Core.List.{List}
@@ -15,6 +15,11 @@ use Rattle.pairs.proofs.MemoryLaws.{marked_inside, size_of, set_found, found_lon
 use Rattle.inclusion.specs.Trace.{Uses, Traced, EntryAt}
 use Rattle.inclusion.specs.declared.witness.Entry.{Entry}
 use Rattle.inclusion.specs.Write.{FoundOnly, need_mark, WantPair, want_none, want_leaf_of, want_eps_of, want_join_of, WantRow, Wanted, Wanting}
+use lib.ListN.{take, drop, replicate, length-replicate}
+use Rattle.std.proofs.lemmas.List.{get_or-replicate}
+use borrow.Rule.Slice.PartMut.{put_mid}
+use Rattle.std.proofs.Common.{rules}
+use Rattle.std.proofs.lemmas.Slice.{overwrites, take-put_mid_below, between-put_mid, drop-put_mid}
 use Rattle.inclusion.proofs.TraceLaws.{pair_at, Placed, Seen, placed, uses_earlier, traced_ready}
 
 -- one change of the marks behind another
@@ -22,6 +27,23 @@ pub found_more : (m m' m'' : Memory) (xs : List ℕ) → FoundOnly m m' → m'' 
 found_more m m' m'' xs a b =
     let e : m'' ≡ with_found m xs = b ∙ ap (λ (x : Memory). with_found x xs) a in
     e ∙ ap (λ (x : Memory). with_found m x.found) (sym e)
+
+-- all marks written at once
+fill_found : (b N : ℕ) (ws zs : List ℕ) → length zs ≡ N → b + N ≤ length ws → memory b N (put_mid b N ws zs) ≡ with_found (memory b N ws) zs
+unfolding memory
+fill_found b N ws zs e h =
+    let l : length (put_mid b N ws zs) ≡ length ws = search (rules, overwrites) in
+    let w : b + N - b ≡ N = omega arith in
+    let g = between-put_mid b N ws zs (b + N) (omega arith) (omega (arith, e)) in
+    let f : take N (drop b (put_mid b N ws zs)) ≡ zs = rw w at g in
+    rw (
+      l,
+      take-put_mid_below b N ws zs b (omega arith) (omega arith),
+      f,
+      drop-put_mid b N ws zs (b + N) (omega arith) (omega arith) e,
+      drop-put_mid b N ws zs (b + 2 * N) (omega arith) (omega arith) e,
+      drop-put_mid b N ws zs (b + 3 * N) (omega arith) (omega arith) e,
+    ) refl
 
 -- a memory with the same size is that of a slice of the same length
 pub same_size : (b N : ℕ) (ws ws' : List ℕ) → (memory b N ws').size ≡ (memory b N ws).size → length ws' ≡ length ws
@@ -52,23 +74,23 @@ clearing_traced {b} {N} {ws} {ws'} {q = q} t k =
     subst (λ (x : Memory). Traced b N x q) (sym k.same)
     (traced_found t (memory b N ws').found (found_long b N ws' (omega (arith, t.room, size_of b N ws, k.size))))
 
-module _ {b N : ℕ} {ws : List ℕ} where
-  pub clearing_none : Clearing b N ws ws 0
-  clearing_none = record { size = refl; same = refl; zero = λ d h. absurd (omega arith) }
+-- the marks stand within the slice
+pub marks_inside : {b N q : ℕ} (ws : List ℕ) → Traced b N (memory b N ws) q → b + N ≤ length ws
+marks_inside {b} {N} ws t = omega (arith, t.room, size_of b N ws)
 
-  pub clearing_more : {ws' : List ℕ} {c q : ℕ} → Traced b N (memory b N ws) q → c < N → Clearing b N ws ws' c
-      → Clearing b N ws (set ws' (found_at b N + c) 0) (c + 1)
-  clearing_more {ws'} {c} t h k =
-      let e = set_found b N ws' c 0 h in
-      let f = (memory b N ws').found in
-      let l : length f ≡ N = (clearing_traced t k).found_size in
-      record {
-        size = length-set ws' (found_at b N + c) 0 ∙ k.size;
-        same = found_more (memory b N ws) (memory b N ws') _ (set f c 0) k.same e;
-        zero = λ d x. ap (λ (m : Memory). at m.found d) e ∙ by_cases (ℕ_discrete d c)
-            (λ i. rw i (get_or-set_same f c 0 0 (omega arith)))
-            (λ i. get_or-set_other f c d 0 0 i ∙ k.zero d (omega arith));
-      }
+module _ {b N : ℕ} {ws : List ℕ} where
+  -- all marks are taken away at once
+  pub clearing_all : {zs : List ℕ} {k m q : ℕ} → Traced b N (memory b N ws) q → k ≡ N → m ≡ N → zs ≡ replicate m 0
+      → Clearing b N ws (put_mid b k ws zs) N
+  clearing_all {zs} {k} {m} t d e z =
+      let l : length zs ≡ N = ap (λ (x : List ℕ). length x) z ∙ length-replicate {A = ℕ} m 0 ∙ e in
+      let h = marks_inside ws t in
+      let f = fill_found b N ws zs l h in
+      rw d (record {
+        size = search (rules, overwrites);
+        same = found_more (memory b N ws) (memory b N ws) _ zs refl f;
+        zero = λ x r. ap (λ (y : Memory). at y.found x) f ∙ ap (λ (y : List ℕ). at y x) z ∙ get_or-replicate m x 0 0 (omega arith);
+      })
 
 -- one place of the walk, from what was read there
 module _ {b N : ℕ} {ws : List ℕ} {j : ℕ} {r : Entry} (s : Seen b N ws r) (e : EntryAt (memory b N ws) j r) where

@@ -53,9 +53,7 @@ fn mark(base: usize, n: usize, work: &mut [u16], i: usize)
     requires { Traced base n (memory base n work.old) (i + 1) }
     ensures { Wanting base n (memory base n work.old) (memory base n work.new) i (i + 1) }
 {
-    for c in 0..n {
-        work[base + c] = 0;
-    }
+    work[base..base + n].fill(0);
     let root = work[base + n + i] as usize;
     work[base + root] = NEEDED;
 }

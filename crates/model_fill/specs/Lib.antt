@@ -1,4 +1,5 @@
 pub mod Ambiguity
 pub mod Kept
+pub mod Slices
 pub mod Work
 pub mod Fill

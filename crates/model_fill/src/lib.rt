@@ -5,9 +5,10 @@
 ghost use Rattle.std.specs.Prelude.{◌≡◌, [], ◌<◌, ◌*◌, length};
 ghost use Rattle.paper.specs.Limits.{limits};
 ghost use Rattle.paper.specs.Told.{Tells};
-ghost use Rattle.model_fill.specs.Kept.{Long, Kept};
 ghost use Rattle.model_fill.specs.Work.{Adds, Ready, AddsAll};
 ghost use Rattle.model_fill.specs.Fill.{FillsStates, refusal_of};
+ghost use Rattle.model_clash.specs.Like.{Clash};
+ghost use Rattle.model_fill.specs.Slices.{LongIn, KeptIn, Same};
 ghost use Rattle.model_fill.specs.declared.Unfilled.TheVariants.{Refused};
 
 use model_read::Survey;
@@ -19,6 +20,15 @@ pub const NO_SYMBOL: u16 = u16::MAX;
 
 // The numbers of a slice of next places.
 pub const NEXT: usize = paper::STATES * paper::STATES;
+
+// The slices that the states of a text are kept in.
+#[derive(Drop)]
+struct Slices<'a> {
+    pub bears: &'a mut [u16],
+    pub owners: &'a mut [u16],
+    pub ends: &'a mut [u16],
+    pub next: &'a mut [u16],
+}
 
 // Why the states of a text are not filled in: the number of the first line with an ambiguous model; the text's refusal, 13 or 15; or the
 // slices have other lengths than they must.
@@ -50,97 +60,94 @@ impl From<Unfilled> for Refusal {
     }
 }
 
-// Have the four slices their lengths?
-fn are_long(bears: &[u16], owners: &[u16], ends: &[u16], next: &[u16]) -> bool
-    ensures { Tells result (Long limits.states bears.now owners.now ends.now
-        next.now) }
-{
-    if bears.len() != paper::STATES {
-        return false;
-    }
-    if owners.len() != paper::STATES {
-        return false;
-    }
-    if ends.len() != paper::STATES {
-        return false;
-    }
-    next.len() == NEXT
-}
-
-// Leaves no state in the slices.
-fn clear(bears: &mut [u16], owners: &mut [u16], ends: &mut [u16], next: &mut [u16])
-    requires { Long limits.states bears.old owners.old ends.old next.old }
-    ensures { Kept limits.states [] bears.new owners.new ends.new next.new }
-{
-    rows::fill(bears, 0, paper::STATES, NO_SYMBOL);
-    rows::fill(owners, 0, paper::STATES, NO_SYMBOL);
-    rows::fill(ends, 0, paper::STATES, 0);
-    rows::fill(next, 0, NEXT, 0);
-}
-
-// Adds the states of the M line x, of which the first is `base`, and answers the first behind them.
-fn add_line(
-    x: &[u8],
-    base: usize,
-    symbols: u16,
-    bears: &mut [u16],
-    owners: &mut [u16],
-    ends: &mut [u16],
-    next: &mut [u16],
-) -> usize
-    requires { (base < limits.states) × Long limits.states bears.old owners.old ends.old next.old }
-    ensures { Adds limits symbols x.now bears.old owners.old ends.old
-        next.old base result bears.new owners.new ends.new next.new }
-{
-    let Some((symbol, from)) = model_line::split(x) else {
-        return base;
-    };
-    let to = x.len() - 1;
-    let place = base + 1;
-    let row = base * paper::STATES + place;
-    let sets = model_sets::fill_sets(
-        &x[from..to],
-        symbols,
-        &mut bears[place..],
-        &mut ends[base..],
-        &mut next[row..],
-    );
-    let Some(places) = sets else {
-        return base;
-    };
-    let behind = place + places;
-    rows::fill(owners, base, behind, symbol);
-    behind
-}
-
-// Adds the states of all M lines; answers the number of the first line whose model is ambiguous, if one is.
-fn add_lines(
-    text: &[u8],
-    symbols: u16,
-    bears: &mut [u16],
-    owners: &mut [u16],
-    ends: &mut [u16],
-    next: &mut [u16],
-) -> Option<usize>
-    requires { Ready limits text.now symbols × Kept limits.states [] bears.old owners.old ends.old next.old }
-    ensures { AddsAll limits text.now result bears.new owners.new ends.new
-        next.new }
-{
-    let mut at = lines::line_end(text, 0);
-    let mut k = 1;
-    let mut base = symbols as usize;
-    // Kept: a while, since a line's length varies.
-    while at < text.len() {
-        let end = lines::line_end(text, at);
-        let behind = add_line(&text[at..end], base, symbols, bears, owners, ends, next);
-        k += 1;
-        if model_clash::clashes(bears, next, base, behind) {
-            return Some(k);
+impl<'a> Slices<'a> {
+    // Have the slices their lengths?
+    fn are_long(&self) -> bool
+        ensures { Tells result (LongIn limits.states self.now) }
+    {
+        if self.bears.len() != paper::STATES {
+            return false;
         }
-        base = behind;
-        at = end;
+        if self.owners.len() != paper::STATES {
+            return false;
+        }
+        if self.ends.len() != paper::STATES {
+            return false;
+        }
+        self.next.len() == NEXT
     }
-    None
+
+    // Leaves no state in the slices.
+    fn clear(&mut self)
+        requires { LongIn limits.states self.old }
+        ensures kept { KeptIn limits.states [] self.new }
+        ensures same { Same self.old self.new }
+    {
+        rows::fill(self.bears, 0, paper::STATES, NO_SYMBOL);
+        rows::fill(self.owners, 0, paper::STATES, NO_SYMBOL);
+        rows::fill(self.ends, 0, paper::STATES, 0);
+        rows::fill(self.next, 0, NEXT, 0);
+    }
+
+    // Adds the states of the M line x, of which the first is `base`, and answers the first behind them.
+    fn add_line(&mut self, x: &[u8], base: usize, symbols: u16) -> usize
+        requires { (base < limits.states) × LongIn limits.states self.old }
+        ensures adds { Adds limits symbols x.now
+            self.old.bears.now self.old.owners.now self.old.ends.now self.old.next.now base result
+            self.new.bears.now self.new.owners.now self.new.ends.now self.new.next.now }
+        ensures same { Same self.old self.new }
+    {
+        let Some((symbol, from)) = model_line::split(x) else {
+            return base;
+        };
+        let to = x.len() - 1;
+        let place = base + 1;
+        let row = base * paper::STATES + place;
+        let sets = model_sets::fill_sets(
+            &x[from..to],
+            symbols,
+            &mut self.bears[place..],
+            &mut self.ends[base..],
+            &mut self.next[row..],
+        );
+        let Some(places) = sets else {
+            return base;
+        };
+        let behind = place + places;
+        rows::fill(self.owners, base, behind, symbol);
+        behind
+    }
+
+    // Are there two like places after a state, all three from `base` on up to `behind`?
+    fn clashes(&self, base: usize, behind: usize) -> bool
+        ensures { Tells result (Clash limits.states self.now.bears.now self.now.next.now base behind) }
+    {
+        model_clash::clashes(self.bears, self.next, base, behind)
+    }
+
+    // Adds the states of all M lines; answers the number of the first line whose model is ambiguous, if one is.
+    fn add_lines(&mut self, text: &[u8], symbols: u16) -> Option<usize>
+        requires { Ready limits text.now symbols × KeptIn limits.states [] self.old }
+        ensures adds { AddsAll limits text.now result
+            self.new.bears.now self.new.owners.now self.new.ends.now self.new.next.now }
+        ensures same { Same self.old self.new }
+    {
+        let mut at = lines::line_end(text, 0);
+        let mut k = 1;
+        let mut base = symbols as usize;
+        // Kept: a while, since a line's length varies.
+        while at < text.len() {
+            let end = lines::line_end(text, at);
+            let behind = self.add_line(&text[at..end], base, symbols);
+            k += 1;
+            if self.clashes(base, behind) {
+                return Some(k);
+            }
+            base = behind;
+            at = end;
+        }
+        None
+    }
 }
 
 // Reads a model text, and fills in what is known of its states.
@@ -154,12 +161,18 @@ pub fn fill_states(
     ensures { FillsStates limits text.now bears.old owners.old ends.old
         next.old result bears.new owners.new ends.new next.new }
 {
-    if !are_long(bears, owners, ends, next) {
+    let mut slices = Slices {
+        bears,
+        owners,
+        ends,
+        next,
+    };
+    if !slices.are_long() {
         return Err(Unfilled::Unfit);
     }
     let survey = model_read::survey_text(text)?;
-    clear(bears, owners, ends, next);
-    if let Some(line) = add_lines(text, survey.symbols, bears, owners, ends, next) {
+    slices.clear();
+    if let Some(line) = slices.add_lines(text, survey.symbols) {
         return Err(Unfilled::Ambiguous(line));
     }
     Ok(survey)

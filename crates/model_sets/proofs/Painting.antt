@@ -5,10 +5,14 @@ use mathlib.Core.Logic.{◌≢◌, by_cases}
 use mathlib.Core.Bool.{Bool, true, false, not, cond, ◌&&◌, and-false}
 use mathlib.Core.List.{List}
 use native.Mathlib.Nat.{mul-le-mul_right, add-mul}
-use native.Mathlib.Decide.{ℕ_discrete}
+use native.Mathlib.Decide.{ℕ_discrete, dec_lt}
 use native.Mathlib.Omega.{arith}
 use borrow.Author.Tests.{lt-ltb, le-ltb, eq-eqb, ne_eqb, ltb-true, ltb-false}
-use lib.ListN.{length, set, length-set}
+use lib.ListN.{length, set, replicate, length-set, length-replicate}
+use borrow.Rule.Slice.PartMut.{put_mid}
+use Rattle.std.proofs.Common.{rules}
+use Rattle.std.proofs.lemmas.Slice.{overwrites}
+use Rattle.std.proofs.lemmas.List.{places}
 use lib.Seq.{get_or-set_same, get_or-set_other}
 use lib.Dec.{ltb, eqb}
 use Rattle.paper.specs.Limits.{at}
@@ -89,23 +93,22 @@ module _ (v : ℕ) where
             (λ q. rw (e j q) (get_or-set_other S' i j v 0 q ∙ g.cell j));
       }
 
--- the loop of `clear`
+-- what `clear` leaves
 pub clear_kept : (kept : Bool) (a b : ℕ) (S : List ℕ) → kept ≡ true → Painted 0 (cleared kept a b) S S
 unfolding cleared
 clear_kept kept a b S h = painted_none 0 (cleared kept a b) S (λ j. rw h refl)
 
-pub clear_start : (a : ℕ) (S : List ℕ) → Painted 0 (within a a) S S
-clear_start a S = painted_none 0 (within a a) S (within_none a)
-
-pub clear_more : (a j : ℕ) (S S' : List ℕ) → a ≤ j → j < length S' → Painted 0 (within a j) S S'
-    → Painted 0 (within a (j + 1)) S (set S' j 0)
-clear_more a j S S' h k g =
-    painted_more 0 (within a j) (within a (j + 1)) S S' j g k (in_within a (j + 1) j h (omega arith)) (λ i d. within_else a j i d)
-
-pub clear_end : (kept : Bool) (a b j : ℕ) (S S' : List ℕ) → kept ≡ false → j ≡ b → Painted 0 (within a j) S S'
-    → Painted 0 (cleared kept a b) S S'
+pub clear_part : (kept : Bool) (a b m : ℕ) (S S' : List ℕ) → kept ≡ false → a ≤ b → b ≤ length S → m ≡ b - a → S' ≡ replicate m 0
+    → Painted 0 (cleared kept a b) S (put_mid a (b - a) S S')
 unfolding cleared
-clear_end kept a b j S S' z e g = painted_as 0 (within a j) (cleared kept a b) g (λ i. rw (z, e) refl)
+clear_part kept a b m S S' z h k e s = record {
+  size = search (rules, overwrites, length-replicate);
+  cell = λ j. by_cases (dec_lt j a)
+      (λ p. rw (z, low_within a b j p) (search (rules, places)))
+      (λ p. by_cases (dec_lt j b)
+      (λ q. rw (z, in_within a b j (omega arith) q) (search (rules, places)))
+      (λ q. rw (z, high_within a b j (omega arith)) (search (rules, places))));
+}
 
 -- the loop of `link_row`
 module _ (N : List ℕ) (row a : ℕ) where

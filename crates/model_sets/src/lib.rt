@@ -39,11 +39,8 @@ fn clear(flags: &mut [u16], kept: bool, a: usize, b: usize)
     requires { (a ≤ b) × (b ≤ length flags.old) }
     ensures { Painted 0 (cleared kept a b) flags.old flags.new }
 {
-    if kept {
-        return;
-    }
-    for j in a..b {
-        flags[j] = 0;
+    if !kept {
+        flags[a..b].fill(0);
     }
 }
 

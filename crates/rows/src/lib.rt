@@ -30,7 +30,8 @@ pub fn put_rule(rules: &mut [u16], at: usize, rule: RuleRow) -> usize
 pub fn fill(s: &mut [u16], from: usize, to: usize, v: u16)
     ensures { Filled s.old from to v s.new }
 {
-    for i in from..to.min(s.len()) {
-        s[i] = v;
+    let end = to.min(s.len());
+    if from < end {
+        s[from..end].fill(v);
     }
 }

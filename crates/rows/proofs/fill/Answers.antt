@@ -1,12 +1,10 @@
 use native.Mathlib.Omega.{arith}
-use Rattle.rows.proofs.FillLaws.{fill_none, fill_more, fill_all}
+use lib.ListN.{length-take, length-drop}
+use Rattle.rows.proofs.FillLaws.{fill_part, fill_short}
 use Rattle.rows.proofs.fill.Goals as goal
 
-pub loop-i-init : goal.loop-i-init
-loop-i-init c = (omega arith, fill_none _ _ _)
+pub returns-then-from-end : goal.returns-then-from-end
+returns-then-from-end c = fill_part (omega arith) (omega arith) (simp (length-take, length-drop) (omega arith)) (c.fill.ensures.after (λ y h. h))
 
-pub loop-i-preserved : goal.loop-i-preserved
-loop-i-preserved c = (omega arith, fill_more (omega arith) (omega arith) c.loop-i.invariant.1)
-
-pub returns : goal.returns
-returns c = fill_all (omega arith) (omega arith) c.loop-i.invariant.1
+pub returns-else-from-end : goal.returns-else-from-end
+returns-else-from-end c = fill_short (omega arith)

@@ -1,49 +1,29 @@
+-- `inclusion::witness::mark` meets its contract: all marks are taken away, then the pair at place i is marked.
 use native.Mathlib.Omega.{arith}
-use lib.ListN.{length-set}
-use Rattle.inclusion.proofs.WantLaws.{clearing_none, clearing_more, clearing_placed, wanting_none}
+use Prim.Native.Nat.{◌+◌, ◌-◌}
+use borrow.Rule.Slice.PartMut.{put_mid}
+use lib.ListN.{length-take, length-drop}
+use Rattle.inclusion.proofs.WantLaws.{Clearing, marks_inside, clearing_all, clearing_placed, wanting_none}
 use Rattle.inclusion.proofs.witness.mark.Goals as goal
 
-pub loop-c-init : goal.loop-c-init
-loop-c-init c = clearing_none
-
-pub overflow_add-work : goal.overflow_add-work
-overflow_add-work c = let s = clearing_placed c.requires c.loop-c.invariant in omega arith
+pub overflow_add-base : goal.overflow_add-base
+overflow_add-base c = omega (arith, marks_inside c.args.work.now c.requires)
 
 pub offset_bounds-work-base : goal.offset_bounds-work-base
-offset_bounds-work-base c = let s = clearing_placed c.requires c.loop-c.invariant in omega arith
+offset_bounds-work-base c = omega (arith, marks_inside c.args.work.now c.requires)
+
+pub slice_bounds-fill-end : goal.slice_bounds-fill-end
+slice_bounds-fill-end c = omega (arith, marks_inside c.args.work.now c.requires)
 
 pub bounds-work-base : goal.bounds-work-base
-bounds-work-base c = let s = clearing_placed c.requires c.loop-c.invariant in omega arith
-
-pub loop-c-preserved : goal.loop-c-preserved
-loop-c-preserved c = clearing_more c.requires (omega arith) c.loop-c.invariant
-
-pub overflow_add-root : goal.overflow_add-root
-overflow_add-root c = let s = clearing_placed c.requires c.loop-c.invariant in omega arith
-
-pub overflow_add-root-2 : goal.overflow_add-root-2
-overflow_add-root-2 c = let s = clearing_placed c.requires c.loop-c.invariant in omega arith
-
-pub offset_bounds-work-base-2 : goal.offset_bounds-work-base-2
-offset_bounds-work-base-2 c = let s = clearing_placed c.requires c.loop-c.invariant in omega arith
+bounds-work-base c =
+    let k : Clearing c.args.base c.args.n c.args.work.now (put_mid c.args.base (c.args.base + c.args.n - c.args.base) c.args.work.now c.fill.new.self) c.args.n = clearing_all c.requires (omega arith) (let h = marks_inside c.args.work.now c.requires in simp (length-take, length-drop) (omega arith)) (c.fill.ensures.after (λ y h. h)) in
+    let s = clearing_placed c.requires k in omega arith
 
 pub bounds-work-base-2 : goal.bounds-work-base-2
-bounds-work-base-2 c = let s = clearing_placed c.requires c.loop-c.invariant in omega arith
-
-pub overflow_cast-root : goal.overflow_cast-root
-overflow_cast-root c = let s = clearing_placed c.requires c.loop-c.invariant in omega arith
-
-pub overflow_add-work-2 : goal.overflow_add-work-2
-overflow_add-work-2 c = let s = clearing_placed c.requires c.loop-c.invariant in omega arith
-
-pub offset_bounds-work-base-3 : goal.offset_bounds-work-base-3
-offset_bounds-work-base-3 c = let s = clearing_placed c.requires c.loop-c.invariant in omega arith
-
-pub bounds-work-base-3 : goal.bounds-work-base-3
-bounds-work-base-3 c = let s = clearing_placed c.requires c.loop-c.invariant in omega arith
-
-pub shape_of-work : goal.shape_of-work
-shape_of-work c = rw length-set c.loop-c.invariant.size
+bounds-work-base-2 c =
+    let k : Clearing c.args.base c.args.n c.args.work.now (put_mid c.args.base (c.args.base + c.args.n - c.args.base) c.args.work.now c.fill.new.self) c.args.n = clearing_all c.requires (omega arith) (let h = marks_inside c.args.work.now c.requires in simp (length-take, length-drop) (omega arith)) (c.fill.ensures.after (λ y h. h)) in
+    let s = clearing_placed c.requires k in omega arith
 
 pub returns : goal.returns
-returns c = wanting_none c.requires c.loop-c.invariant (omega arith)
+returns c = wanting_none c.requires (clearing_all c.requires (omega arith) (let h = marks_inside c.args.work.now c.requires in simp (length-take, length-drop) (omega arith)) (c.fill.ensures.after (λ y h. h))) (omega arith)

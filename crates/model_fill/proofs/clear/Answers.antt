@@ -1,7 +1,0 @@
--- `model_fill::clear` meets its contract: four filled slices keep the states of no line.
-use mathlib.Core.Path.{refl}
-use Rattle.model_fill.proofs.ClearLaws.{cleared}
-use Rattle.model_fill.proofs.clear.Goals as goal
-
-pub returns : goal.returns
-returns c = cleared refl c.requires c.fill.ensures c.fill-2.ensures c.fill-3.ensures c.fill-4.ensures
