@@ -140,10 +140,11 @@ impl<'a> Table<'a> {
         requires k_in_bounds { k < length self.now.rules.now / limits.width }
         ensures { Rowed limits.width self.now.rules.now k reached.old result reached.new }
     {
-        let rule = self.rule(k);
-        if rule.kind != paper::EPSILON_RULE {
+        // Kept: the kind by index, as the check took 11 of a hundred more where it was read with the whole row.
+        if self.rules[k * paper::WIDTH] != paper::EPSILON_RULE {
             return 0;
         }
+        let rule = self.rule(k);
         let from = rule.left as usize;
         let to = rule.to as usize;
         if !reached[from] {

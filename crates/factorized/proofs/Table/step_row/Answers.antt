@@ -7,8 +7,8 @@ use Rattle.factorized.proofs.RangeLaws.{in_range_wider}
 use Rattle.factorized.proofs.EpsilonLaws.{rowed_same, rowed_one}
 use Rattle.factorized.proofs.Table.step_row.Goals as goal
 
-pub returns-then-rule-ne-EPSILON_RULE : goal.returns-then-rule-ne-EPSILON_RULE
-returns-then-rule-ne-EPSILON_RULE c = rowed_same limits c.args.self.now.rules.now c.args.k c.args.reached.now (λ e. absurd (c.if-rule-ne-EPSILON_RULE.true (sym c.rule-rule.ensures.kind ∙ e)))
+pub returns-then-self-k-ne-EPSILON_RULE : goal.returns-then-self-k-ne-EPSILON_RULE
+returns-then-self-k-ne-EPSILON_RULE c = rowed_same limits c.args.self.now.rules.now c.args.k c.args.reached.now (λ e. absurd (c.if-self-k-ne-EPSILON_RULE.true e))
 
 pub returns-then-not-reached-from : goal.returns-then-not-reached-from
 returns-then-not-reached-from c = let r = c.rule-rule.ensures in
@@ -20,4 +20,4 @@ returns-then-reached-to c = let r = c.rule-rule.ensures in
 
 pub returns : goal.returns
 returns c = let r = c.rule-rule.ensures in rw (sym r.target) (rowed_one limits c.args.self.now.rules.now c.args.k c.args.reached.now (omega arith) (in_range_wider (omega (arith, c.requires.reached)) c.args.self.now.ranged.rules) c.requires.k_in_bounds
-    (r.kind ∙ c.if-rule-ne-EPSILON_RULE.false) (rw r.left c.if-not-reached-from.false) (rw r.target c.if-reached-to.false))
+    c.if-self-k-ne-EPSILON_RULE.false (rw r.left c.if-not-reached-from.false) (rw r.target c.if-reached-to.false))
