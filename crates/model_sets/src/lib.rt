@@ -20,7 +20,7 @@ use postfix::Reading;
 // A model on the stack: its first place, and whether it can be empty.
 #[derive(Clone, Copy)]
 struct Part {
-    pub start: usize,
+    pub start: u16,
     pub empty: bool,
 }
 
@@ -110,7 +110,7 @@ impl<'a> Stack<'a> {
         self.ends[n + 1] = 1;
         self.next[n] = 1;
         self.models[d] = Part {
-            start: n,
+            start: n as u16,
             empty: false,
         };
         self.depth = d + 1;
@@ -127,9 +127,11 @@ impl<'a> Stack<'a> {
         let i = self.depth - 2;
         let left = self.models[i];
         let right = self.models[i + 1];
-        self.link(left.start + 1, right.start + 1, right.start, n);
-        clear(self.next, left.empty, right.start, n);
-        clear(self.ends, right.empty, left.start + 1, right.start + 1);
+        let l = left.start as usize;
+        let r = right.start as usize;
+        self.link(l + 1, r + 1, r, n);
+        clear(self.next, left.empty, r, n);
+        clear(self.ends, right.empty, l + 1, r + 1);
         self.models[i].empty = left.empty && right.empty;
         self.depth = i + 1;
     }
@@ -146,7 +148,7 @@ impl<'a> Stack<'a> {
             Token::Symbol(_) => self.place(),
             Token::Empty => {
                 self.models[d] = Part {
-                    start: n,
+                    start: n as u16,
                     empty: true,
                 };
                 self.depth = d + 1;
@@ -159,7 +161,7 @@ impl<'a> Stack<'a> {
                 self.depth = d - 1;
             }
             Token::Star => {
-                let m = self.models[d - 1].start;
+                let m = self.models[d - 1].start as usize;
                 self.link(m + 1, n + 1, m, n);
                 self.models[d - 1].empty = true;
             }
@@ -167,7 +169,7 @@ impl<'a> Stack<'a> {
                 self.models[d - 1].empty = true;
             }
             Token::Plus => {
-                let m = self.models[d - 1].start;
+                let m = self.models[d - 1].start as usize;
                 self.link(m + 1, n + 1, m, n);
             }
         }
