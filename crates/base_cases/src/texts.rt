@@ -36,7 +36,9 @@ fn read_into(rt: &impl Print, text: &[u8], marks: &mut [u16], rules: &mut [u16])
         Err(f) => say::refused(rt, f, marks, rules),
         Ok(t) => {
             say::text(rt, b"\ttable")?;
-            say::sizes(rt, t)?;
+            say::field(rt, t.symbols as usize)?;
+            say::field(rt, t.states)?;
+            say::field(rt, t.rules)?;
             if t.states <= marks.len() && t.rules <= rules.len() / paper::WIDTH {
                 write_back(
                     rt,

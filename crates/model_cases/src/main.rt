@@ -47,7 +47,9 @@ fn compile_into(
         Err(f) => say::refused(rt, f, marks, rules),
         Ok(t) => {
             say::text(rt, b"\ttable")?;
-            say::sizes(rt, t)?;
+            say::field(rt, t.symbols as usize)?;
+            say::field(rt, t.states)?;
+            say::field(rt, t.rules)?;
             show(
                 rt,
                 t.symbols,

@@ -6,7 +6,6 @@ ghost use Rattle.std.specs.Prelude.{◌≡◌, cond, ◌-◌, ◌≤◌, ◌<◌
 use paper::{Checked, Refusal};
 use std::io;
 use std::rt::Files;
-use table::Sizes;
 
 // No case's file has more bytes than this, and so none has more numbers.
 pub const CASE_BYTES: usize = 16384;
@@ -34,13 +33,6 @@ pub fn refusal(rt: &impl Print, f: Refusal) -> io::Result<()> {
     field(rt, f.number as usize)?;
     field(rt, f.side as usize)?;
     field(rt, f.place)
-}
-
-// How many symbols, states and rules a table has.
-pub fn sizes(rt: &impl Print, t: Sizes) -> io::Result<()> {
-    field(rt, t.symbols as usize)?;
-    field(rt, t.states)?;
-    field(rt, t.rules)
 }
 
 pub fn checked(rt: &impl Print, c: Checked) -> io::Result<()> {
